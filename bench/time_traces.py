@@ -11,16 +11,13 @@ peak memory of a call.
 """
 import os
 
+from bench.time_edits import name
 from bench.timing import folder_of, show
 from tests.support.calls import built, written
 
 MOST = 16_777_216
 ROWS = 200_000
 SOURCES, TASKS = 128, 512
-
-
-def name(letter, number):
-    return letter.ljust(64 - len(str(number)), "_") + str(number)
 
 
 def system():

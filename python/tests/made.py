@@ -44,6 +44,11 @@ def with_bounds(system: dict[str, Any]) -> Bounded:
     return system, rules, SystemView.of(values_in(text)), bounds
 
 
+def view_of(system: System) -> SystemView:
+    """The view of the file of a system."""
+    return SystemView.of(values_in(system.to_toml()))
+
+
 def told_of(text: str) -> tuple[str, str, str]:
     """The line of the refusal of a file, what is said, and what helps; nothing where it is a system."""
     found = first_refusal(Document(text))

@@ -3,11 +3,12 @@ import unittest
 import warnings
 
 from engine_for_tests import need_engine
+from made import view_of
 
 from lokwurmi import LokwurmiError, NoTick, System, TraceDisobeys, UnitsRefused
-from lokwurmi.files.documents import Document, values_in
+from lokwurmi.files.documents import Document
 from lokwurmi.files.text_files import File
-from lokwurmi.model.view import Anchor, SystemView
+from lokwurmi.model.view import Anchor
 from lokwurmi.refusals.clock_starts import first_off
 from lokwurmi.refusals.edits import refused_edits
 from lokwurmi.refusals.rules import first_refusal
@@ -31,10 +32,6 @@ def two_tasks(offset: int | str | None = 5, clock: str | None = "timer", tick: s
 def with_periods(text: str, first: int, second: int) -> str:
     """The file with other periods of both sources."""
     return text.replace("period = 10,", f"period = {first},", 1).replace("period = 10,", f"period = {second},", 1)
-
-
-def view_of(system: System) -> SystemView:
-    return SystemView.of(values_in(system.to_toml()))
 
 
 class Files(unittest.TestCase):

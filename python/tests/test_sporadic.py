@@ -4,10 +4,9 @@ import warnings
 from pathlib import Path
 
 from engine_for_tests import need_engine
+from made import view_of
 
 from lokwurmi import LokwurmiError, System, SystemRefused, UnitsRefused
-from lokwurmi.files.documents import values_in
-from lokwurmi.model.view import SystemView
 from lokwurmi.refusals.silence import ASKED, AskedChain, asked_in, kinds_in, sentences_on, silences_in
 
 EXAMPLES = Path(__file__).resolve().parents[2] / "examples"
@@ -21,10 +20,6 @@ def pressed(sporadic: bool | None = True) -> System:
     control = system.task("control", on=cpu, after=system.source("often", period=10), best=2, worst=2, priority=2)
     system.task("act", on=cpu, after=control, best=3, worst=3, priority=3)
     return system
-
-
-def view_of(system: System) -> SystemView:
-    return SystemView.of(values_in(system.to_toml()))
 
 
 def opened(system: System, *tasks: str, while_running: bool = False) -> dict[tuple[str, str], tuple[str, ...]]:

@@ -30,8 +30,8 @@ SYSTEMS = {
     "1,000 tasks under round robin": lambda: taking_turns(1000, "round-robin"),
     "8,000 tasks under TDMA": lambda: taking_turns(8000, "tdma"),
     "4,000 tasks with locks": lambda: with_locks(4000),
-    "1,000 frames in queues": lambda: queueing(1000),
-    "1,000 frames in queues that are nearly or too full": lambda: queueing(1000, 0.97),
+    "1,000 frames in queues": lambda: queueing(),
+    "1,000 frames in queues that are nearly or too full": lambda: queueing(0.97),
 }
 # the most entries of each list, the greatest numbers, and the most bytes, in formats 1 and 2 and in format 4
 COUNTS = {"resource": (64, 128), "source": (128, 8192), "task": (512, 8192), "path": (128, 2048)}

@@ -114,9 +114,9 @@ def buses(count):
     return document(resources, [source(k, own[k]) for k in range(sent)], tasks, paths)
 
 
-def queueing(count, load=0.7):
-    """Frames on 16 ports of 100 Mbit/s, where a tick is 1 us; every second one goes on to the next port."""
-    draw = random.Random(f"queues {count}")
+def queueing(load=0.7):
+    """1,000 frames on 16 ports of 100 Mbit/s, where a tick is 1 us; every second one goes on to the next port."""
+    count, draw = 1000, random.Random("queues 1000")
     sizes = [draw.randrange(46, 1501) for _ in range(count)]
     ticks = [-(-8 * (38 + size) // 100) for size in sizes]
     # a frame that goes on has the period of the one before it

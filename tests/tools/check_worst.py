@@ -21,6 +21,7 @@ import time
 
 from tests.rules.runs import replayed, system_in
 from tests.support.calls import TOP, hold, run, tell, tool
+from tests.support.pictures import lines_of
 
 TOOL = "worst"
 # Whose bound has to be reached, or which ratio it has to have at least.
@@ -87,11 +88,6 @@ def seen_in(name, traces, program):
 def rows_in(told):
     """What a table says was seen: of what stands there twice, the second."""
     return {what: int(worst) for what, worst in ROW.findall(told)}
-
-
-def lines_of(file):
-    with open(file, encoding="ascii") as it:
-        return it.read().splitlines()
 
 
 def traces_in(folder):

@@ -39,6 +39,7 @@ def keys_of(form: int) -> dict[str, dict[str, Key]]:
         for part, keys in times_of(LIMITS[form]).items()
     }
     name, source, task = {"name": Key("text", is_required=True)}, times["source"], times["task"]
+    offset = source.pop("offset")
     payload = MOST_ETHERNET if "fifo" in kinds_of(form) else MOST_CLASSICAL
     newest = {
         "resource": {
@@ -48,13 +49,7 @@ def keys_of(form: int) -> dict[str, dict[str, Key]]:
             "bit": Key("integer", 1, MOST_BIT),
             "rate": Key("integer", 1, MOST_RATE),
         },
-        "source": {
-            **name,
-            **{key: source[key] for key in ("period", "jitter", "distance")},
-            "sporadic": Key("truth"),
-            "clock": Key("text"),
-            "offset": source["offset"],
-        },
+        "source": {**name, **source, "sporadic": Key("truth"), "clock": Key("text"), "offset": offset},
         "task": {
             **name,
             "on": Key("text", is_required=True),

@@ -47,8 +47,8 @@ def exact(amount: Number) -> Fraction:
         raise UnitsRefused(f"{amount!r} is no amount of time: write a number, or a text such as '16.667'") from fault
 
 
-def decimal_text(number: Fraction, digits: int | None = None) -> str | None:
-    """A fraction as a decimal number, or None where it has no end, or more digits than so many."""
+def decimal_text(number: Fraction) -> str | None:
+    """A fraction as a decimal number, or None where it has no end."""
     rest, places = number.denominator, 0
     for factor in (2, 5):
         count = 0
@@ -58,8 +58,7 @@ def decimal_text(number: Fraction, digits: int | None = None) -> str | None:
     if rest != 1:
         return None
     whole, part = divmod(abs(number.numerator) * 10**places // number.denominator, 10**places)
-    text = ("-" if number < 0 else "") + str(whole) + (f".{part:0{places}d}" if places else "")
-    return text if digits is None or len(text.replace(".", "").strip("-0")) <= digits else None
+    return ("-" if number < 0 else "") + str(whole) + (f".{part:0{places}d}" if places else "")
 
 
 @total_ordering

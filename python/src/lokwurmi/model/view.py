@@ -457,3 +457,9 @@ class SystemView:
     def utilisation(self, resource: str) -> Fraction:
         """What all tasks of a resource ask for at most, as a share of the time; above 1 a task of it has no bound."""
         return sum(map(self.demand, self.on(resource)), Fraction(0))
+
+    def overloaded(self) -> dict[str, Fraction]:
+        """The resources that are asked for more than all of the time, and how much: whatever the priorities and offsets
+        are, a task of each has no bound."""
+        found = {on: self.utilisation(on) for on in self.resources}
+        return {on: share for on, share in found.items() if share > 1}

@@ -115,7 +115,7 @@ def priorities_of(known: Analysed, chains: ChainGoals | None) -> Values:
         "order": search.changed(),
         "edits": search.script(),
         "chains": chains_told(search, verdict),
-        "overloaded": [{"on": on, "load": above(share)} for on, share in search.overloaded().items()],
+        "overloaded": [{"on": on, "load": above(share)} for on, share in search.view.overloaded().items()],
     }
 
 

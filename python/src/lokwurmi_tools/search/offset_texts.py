@@ -172,9 +172,9 @@ def notes_of(search: OffsetSearch) -> list[str]:
     if search.is_whole:
         ways = numbered(search.ways(), "way")
         found.append(f"all {ways} to place these sources were tried: by none is less missed, or the sum less")
-    for on, share in search.overloaded().items():
+    for on, share in search.view.overloaded().items():
         found.append(f"no offsets can do: the utilisation of {on} is {above(share)} %, whatever the offsets are")
-    if not is_met(search) and not search.is_whole and not search.overloaded():
+    if not is_met(search) and not search.is_whole and not search.view.overloaded():
         found.append("there may be offsets still: the search proves nothing about what it didn't try")
     return [*found, CHAINS, CLOCK_WORDS]
 
@@ -198,7 +198,7 @@ def json_text(search: OffsetSearch) -> str:
     sums = {"before": search.first.cost, "after": best.cost, "without_clocks": search.judge.cost(search.plain_report())}
     if search.spread:
         sums["spread"] = search.spread.cost
-    loads = {on: float(share) for on, share in search.overloaded().items()}
+    loads = {on: float(share) for on, share in search.view.overloaded().items()}
     whole: Values = {**asked, **found, "overloaded": loads, "costs": {name: it._asdict() for name, it in sums.items()}}
     whole |= {"offsets": rows_of_sources(search), "bounds": rows_of(search), "edits": search.edits()}
     return json.dumps(whole | {"clock_premise": CLOCK_PREMISE}, indent=1)

@@ -7,7 +7,6 @@ import time
 from collections.abc import Iterator, Mapping, Sequence
 from concurrent.futures import ThreadPoolExecutor
 from dataclasses import dataclass
-from fractions import Fraction
 from typing import NamedTuple
 
 from lokwurmi.model.limits import MOST_SCRIPT_LINES, MOST_TICKS
@@ -135,12 +134,6 @@ class OffsetSearch:
         self.at = self.first
         self.file = known.file
 
-    def overloaded(self) -> dict[str, Fraction]:
-        """The resources that are asked for more than all of the time, and how much: whatever the offsets are, a task of
-        each has no bound."""
-        found = {on: self.view.utilisation(on) for on in self.view.resources}
-        return {on: share for on, share in found.items() if share > 1}
-
     def left(self) -> float:
         """How many seconds are left."""
         seconds = self.options.seconds
@@ -157,7 +150,7 @@ class OffsetSearch:
     def run(self) -> None:
         """Goes from the heuristic on, to all ways where there are few, else by moves of a source; where no offsets can
         do nothing is tried."""
-        if self.overloaded():
+        if self.view.overloaded():
             return
         spread = self.clocks.spread()
         self.spread = self.go_to({name: spread[name] for name in self.free}, "spread evenly")

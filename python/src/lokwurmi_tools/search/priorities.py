@@ -4,7 +4,6 @@ import random
 import time
 from collections.abc import Callable, Iterator, Sequence
 from dataclasses import dataclass
-from fractions import Fraction
 from typing import Any, NamedTuple
 
 from lokwurmi.model.event_models import Bounds, Stream, inputs_of
@@ -138,12 +137,6 @@ class PrioritySearch:
     def silences(self) -> list[str]:
         """Which deadlines of chains no order meets, since a task waits for a sporadic source."""
         return self.chains.silences() if self.chains else []
-
-    def overloaded(self) -> dict[str, Fraction]:
-        """The resources that are asked for more than all of the time, and how much: whatever the priorities are, a task
-        of each has no bound."""
-        found = {on: self.view.utilisation(on) for on in self.view.resources}
-        return {on: share for on, share in found.items() if share > 1}
 
     def is_over(self) -> bool:
         return self.until is not None and time.monotonic() > self.until
@@ -371,7 +364,7 @@ class PrioritySearch:
 
     def run(self) -> None:
         """Goes through all that is known, until an order holds; where none can, only that of the file is looked at."""
-        if self.overloaded() or self.silences():
+        if self.view.overloaded() or self.silences():
             self.look(self.given, "the order of the file")
             return
         for how, order in self.starts():

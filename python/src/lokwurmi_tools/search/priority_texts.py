@@ -47,7 +47,7 @@ def lines_of_chains(search: PrioritySearch, verdict: OrderVerdict) -> list[str]:
 def json_text(search: PrioritySearch, verdict: OrderVerdict) -> str:
     """All that was found, as JSON."""
     found = {"file": search.known.file, "found": verdict.holds, "orders": search.looked, "by": search.how}
-    loads = {on: float(share) for on, share in search.overloaded().items()}
+    loads = {on: float(share) for on, share in search.view.overloaded().items()}
     late = {"late": verdict.late, "overload": verdict.over, "overloaded": loads}
     chains = {"chains": chains_told(search, verdict), "premise": PREMISE if search.chains else None}
     if search.view.clocks_in_bounds:
@@ -68,12 +68,12 @@ def lines_of(search: PrioritySearch, verdict: OrderVerdict) -> list[str]:
     lines += [f"{on}: {' '.join(names)}" for on, names in search.changed().items()]
     if not search.changed():
         lines.append("the order is that of the file")
-    for on, share in search.overloaded().items():
+    for on, share in search.view.overloaded().items():
         lines.append(f"no order can do: the utilisation of {on} is {above(share)} %, whatever the priorities are")
     lines += [f"no order can do: {it}" for it in search.silences()]
     if not verdict.holds and not has_orders(search):
         lines.append("no order can do: no two tasks of a resource have priorities that could change places")
-    elif not verdict.holds and not search.overloaded() and not search.silences():
+    elif not verdict.holds and not search.view.overloaded() and not search.silences():
         lines.append("there may be an order still: the search proves nothing about what it didn't try")
         stay = {key: any(it.get(key) for it in search.view.values["task"]) for key in ("region", "locks")}
         if any(stay.values()):
