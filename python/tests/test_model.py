@@ -13,6 +13,7 @@ from engine_for_tests import need_engine
 from made import random_system
 
 from lokwurmi import (
+    EditRefused,
     Kind,
     NameRefused,
     NoEngine,
@@ -215,6 +216,27 @@ class Calls(unittest.TestCase):
                 found.add(int(head[1]))
         self.assertGreaterEqual(len(found), 12)
 
+    def test_large(self) -> None:
+        """A system of a file of format 4 has the larger limits, though its entries need none: with an execution of a
+        million and a tick the window is longer than its limit, which is what ends the slack, and not the greatest
+        execution."""
+        system = System()
+        a = system.task(
+            "a", on=system.preemptive("cpu"), after=system.source("s", 10**8), best=1, worst=3, priority=1
+        )
+        system.path("p", [a], deadline=10**8)
+        found = system.slack("a")
+        self.assertEqual((found.ticks, found.at_limit), (999_997, True))
+        large = System.from_toml(system.to_toml().replace("format = 1", "format = 4"))
+        self.assertEqual((large.to_toml().splitlines()[0], large, large.copy().is_large), ("format = 4", system, True))
+        found = large.slack("a")
+        self.assertEqual((found.ticks, found.at_limit), (999_997, False))
+        with large.session() as session:
+            session.exec("a", worst=10**7)
+            self.assertTrue(session.to_system().is_large)
+        with system.session() as session, self.assertRaisesRegex(EditRefused, "rule 3"):
+            session.exec("a", worst=10**7)
+
 
 class Files(unittest.TestCase):
     def test_round_trip(self) -> None:
@@ -225,7 +247,8 @@ class Files(unittest.TestCase):
             if file.name.endswith(".chains.toml"):
                 continue
             system = System.from_file(file)
-            self.assertEqual(System.from_toml(system.to_toml()), system)
+            again = System.from_toml(system.to_toml())
+            self.assertEqual((again, again.is_large), (system, system.is_large))
 
     def test_copy(self) -> None:
         system = two_tasks()

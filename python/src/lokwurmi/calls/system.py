@@ -65,15 +65,15 @@ class System(NamedEntries):
     def _file(self) -> tuple[str, list[Rounding]]:
         """The system file, and what was rounded for it."""
         document, converter = self._converted()
-        text = system_text(document)
+        text = system_text(document, self._format())
         if converter is None or self._tick is None:
             return text, []
         self._warn_bare(converter)
         return head_of(self._tick, converter) + text, converter.reported
 
     def to_toml(self) -> str:
-        """The system file, in whole ticks; roundings stand in comments at its head. It has format 4 where a task has a
-        region, or a source is sporadic or on a clock, else 2 where one has several activators, else 1."""
+        """The system file, in whole ticks; roundings stand in comments at its head. It has the least format that has
+        all of it, or format 4 where the system is large."""
         text, told = self._file()
         self._warn(told)
         return text
@@ -88,7 +88,7 @@ class System(NamedEntries):
         that isn't TOML. With a tick, times may have units: texts as "250 us", and `bitrate` of a bus. Where some have
         one, a NoUnitWarning tells the numbers that have none."""
         system = cls(tick)
-        entries = entries_in(text, tick is not None)
+        entries, system.is_large = entries_in(text, tick is not None)
         for part, several in system._parts().items():
             several.update(entries[part])
         if tick is not None:

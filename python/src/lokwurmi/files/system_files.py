@@ -8,6 +8,7 @@ from lokwurmi.files.toml_text import entry_text
 from lokwurmi.model.conversion import Converter
 from lokwurmi.model.entries import KINDS, Entry
 from lokwurmi.model.formats import least_format
+from lokwurmi.model.limits import NEWEST
 from lokwurmi.model.units import Time
 
 
@@ -28,15 +29,16 @@ def head_of(tick: Time, converter: Converter) -> str:
     return head
 
 
-def system_text(values: dict[str, list[dict[str, Any]]]) -> str:
-    """The file of a system's entries in ticks, in the least format that has all of them."""
+def system_text(values: dict[str, list[dict[str, Any]]], least: int) -> str:
+    """The file of a system's entries in ticks, in the least format that has all of them, and is no less than this."""
     lists = "".join(f"{part} = [\n{''.join(map(entry_text, rows))}]\n" for part, rows in values.items() if rows)
-    return f"format = {least_format(values)}\n{lists}"
+    return f"format = {max(least, least_format(values))}\n{lists}"
 
 
-def entries_in(text: str, has_units: bool) -> dict[str, dict[str, Entry]]:
-    """The entries of a system file, by part and name. What no entry can be made of raises an error, in the words of
-    the launcher; all else is the program's to judge. With units, a resource may have a bit rate."""
+def entries_in(text: str, has_units: bool) -> tuple[dict[str, dict[str, Entry]], bool]:
+    """The entries of a system file, by part and name, and whether its format is the newest. What no entry can be made
+    of raises an error, in the words of the launcher; all else is the program's to judge. With units, a resource may
+    have a bit rate."""
     from lokwurmi.files.text_files import File
     from lokwurmi.refusals.rules import first_misshapen
     from lokwurmi.refusals.sentences import placed
@@ -47,4 +49,5 @@ def entries_in(text: str, has_units: bool) -> dict[str, dict[str, Entry]]:
         raise LokwurmiError(f"the text isn't TOML: {fault}") from fault
     if remark := first_misshapen(document, has_units):
         raise LokwurmiError(placed(File("", document.text), remark))
-    return {part: {it["name"]: KINDS[part](**it) for it in document.entries[part]} for part in PARTS}
+    entries = {part: {it["name"]: KINDS[part](**it) for it in document.entries[part]} for part in PARTS}
+    return entries, document.values.get("format") == NEWEST

@@ -13,7 +13,7 @@ from lokwurmi.model.clocks import Clock
 from lokwurmi.model.conversion import Converter, NoUnitWarning, Rounding, warn
 from lokwurmi.model.entries import Entry, Lock, Path, Resource, Source, Task, Ticks, check_no_time, keys_of, kind_name
 from lokwurmi.model.formats import least_format
-from lokwurmi.model.limits import TIMES, Kind
+from lokwurmi.model.limits import NEWEST, TIMES, Kind
 from lokwurmi.model.units import Time, tick_of
 from lokwurmi.model.view import SystemView
 
@@ -39,6 +39,9 @@ class NamedEntries:
         self.sources: dict[str, Source] = {}
         self.tasks: dict[str, Task] = {}
         self.paths: dict[str, Path] = {}
+        self.is_large = False
+        """Whether its file has format 4 and its larger limits, also where its entries don't need them: so it is with a
+        system that was read from such a file."""
         self._told: set[str] = set()
         self._has_units = False
         self._looked_at = ""
@@ -316,8 +319,9 @@ class NamedEntries:
         return converter.bare_text() if converter and converter.has_units else ""
 
     def _format(self) -> int:
-        """The least format that has all keys that are set."""
-        return least_format({key: map(keys_of, part.values()) for key, part in self._parts().items()})
+        """The least format that has all keys that are set, or the newest where the system is large."""
+        found = least_format({key: map(keys_of, part.values()) for key, part in self._parts().items()})
+        return NEWEST if self.is_large else found
 
     def _check_names(self) -> None:
         """Refuses an entry that was given another name than the one by which it was added: edits and bounds of a
