@@ -139,6 +139,37 @@ class Phases(unittest.TestCase):
         self.assertEqual((plain.phases, plain.tasks["c"].phases), ({}, ()))
         self.assertNotIn("from the start of a clock on", plain._repr_html_())
 
+    def test_premise(self) -> None:
+        """Whether bounds presume the clock: on a processor they do, and in a queue they know nothing of it. A script may
+        change that, so that its reports name each clock."""
+        need_engine()
+        premise, system = "Holds while the node doesn&#x27;t begin anew", station()
+        report = system.analyse()
+        self.assertEqual((report.clocks, pickle.loads(pickle.dumps(report)).clocks), (("engine",), ("engine",)))
+        self.assertIn(premise, report._repr_html_())
+        queued = System()
+        gate, engine = queued.fifo("gate"), queued.clock("engine")
+        for name, offset in (("speed", 0), ("torque", 5)):
+            queued.task(f"{name}_passed", on=gate, after=engine.source(name, 10, offset=offset), best=1, worst=2)
+        report = queued.analyse()
+        self.assertEqual((report.clocks, report.tasks["torque_passed"].worst), ((), 4))
+        self.assertEqual(report.tasks["torque_passed"].phases, (Anchor("engine", 5),))
+        self.assertNotIn(premise, report._repr_html_())
+        self.assertIn(premise, queued.session("offset torque 3\n")[-1]._repr_html_())
+        with queued.session() as session:
+            self.assertEqual(session.report().clocks, ())
+
+    def test_premise_of_charts(self) -> None:
+        need_engine()
+        if importlib.util.find_spec("matplotlib") is None:
+            raise unittest.SkipTest("there is no matplotlib")
+        labels = [
+            getattr(it.plot(), "_supxlabel")
+            for it in (station().analyse(), Report(["summary tasks 0 overload 0 missed 0"]))
+        ]
+        self.assertIn("Holds while the node doesn't begin anew", labels[0].get_text())
+        self.assertIsNone(labels[1])
+
     def test_session(self) -> None:
         need_engine()
         with station().session() as session:

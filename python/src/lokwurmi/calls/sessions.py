@@ -256,7 +256,7 @@ class Session:
             status, text = self._open().report()
             if not Status.is_answer(status):
                 raise CallFailed(status, text)
-            return reports.reports(text, self._system.tick, self._roundings, self._system._phases())[-1]
+            return reports.reports(text, self._system.tick, self._roundings, *self._system._by_clocks())[-1]
 
     @property
     def verdict(self) -> Verdict:

@@ -174,14 +174,14 @@ class System(NamedEntries):
         3
         """
         text, told = self._told_answer("analyse", engine=engine)
-        return reports.reports(text, self._tick, told, self._phases())[-1]
+        return reports.reports(text, self._tick, told, *self._by_clocks())[-1]
 
-    def _phases(self) -> reports.Phases:
-        """Where the streams of each task are on clocks, of a system that was accepted."""
+    def _by_clocks(self) -> tuple[reports.Phases, tuple[str, ...]]:
+        """Where the streams of each task are on clocks, and which clocks bounds use, of a system that was accepted."""
         if not self.clocks:
-            return {}
+            return {}, ()
         view = self.view()
-        return {name: view.anchors_of(name) for name in self.tasks}
+        return {name: view.anchors_of(name) for name in self.tasks}, view.clocks_in_bounds
 
     @overload
     def session(self, script: None = None, *, engine: Engine | None = None) -> "Session":
@@ -214,7 +214,7 @@ class System(NamedEntries):
             return Session(self, engine)
         text = script if isinstance(script, str) else "".join(f"{line}\n" for line in script)
         found, told = self._told_answer("session", [text], engine=engine)
-        several = reports.reports(found, self._tick, told)
+        several = reports.reports(found, self._tick, told, clocks=self.clocks)
         if refused := [edit for report in several for edit in report.refused.items()]:
             warn(notices_of_script(text, refused, self._file()[0]), NoticeWarning)
         return several

@@ -114,6 +114,8 @@ def report_chart(report: "Report", tick: Fraction | None = None, with_tasks: boo
             _draw_paths(place, report.paths, scale)
         else:
             _draw_tasks(place, report.tasks, scale)
+    if report.clocks:
+        figure.supxlabel(PREMISE, fontsize=7)
     return figure
 
 

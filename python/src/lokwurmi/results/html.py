@@ -97,6 +97,7 @@ def report(it: "reports.Report") -> str:
     heads = ["task", "resource", "period", "jitter", "distance", "best", "worst-case response time"]
     if it.phases:
         heads.append("from the start of a clock on")
+    if it.clocks:
         note += f" {CLOCK_PREMISE}"
     first = table(f"Tasks {mark(it.verdict.value)}", heads, tasks, "" if paths else note)
     heads = ["path", "best", "worst-case latency", "deadline", "verdict"]

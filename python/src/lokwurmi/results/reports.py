@@ -164,7 +164,7 @@ def _path(line: str, tick: Time | None) -> PathReport:
 class Report:
     """The bounds of a system: they hold in every run whose events and executions obey the system."""
 
-    __slots__ = ("text", "tasks", "paths", "refused", "overloads", "missed", "tick", "roundings", "phases")
+    __slots__ = ("text", "tasks", "paths", "refused", "overloads", "missed", "tick", "roundings", "phases", "clocks")
 
     text: str
     """What the program writes of it, in ticks."""
@@ -186,6 +186,9 @@ class Report:
     phases: Phases
     """Where the streams of each task are on clocks, by the names of tasks; empty where none is on one, and where nobody
     told the system, as of a script."""
+    clocks: tuple[str, ...]
+    """The clocks that its bounds use, and so hold by: of a script all that there are, since its edits may change that;
+    empty where nobody told the system."""
 
     def __init__(
         self,
@@ -194,6 +197,7 @@ class Report:
         tick: Time | None = None,
         roundings: Iterable[Rounding] = (),
         phases: Phases | None = None,
+        clocks: Iterable[str] = (),
     ):
         summary = lines.SUMMARY.fullmatch(rows[-1]) if rows else None
         tasks = [row for row in rows if row.startswith("task ")]
@@ -202,6 +206,7 @@ class Report:
             raise Unreadable("there is no whole report; its last line begins with summary")
         self.text = "".join(f"{row}\n" for row in rows)
         self.tick, self.roundings, self.phases = tick, tuple(roundings), dict(phases or {})
+        self.clocks = tuple(clocks)
         self.tasks = _Entries(tasks, partial(_task, tick=tick, phases=self.phases))
         self.paths = _Entries(others, partial(_path, tick=tick))
         self.refused = refused or {}
@@ -216,7 +221,7 @@ class Report:
         return self.text == other.text and self.refused == other.refused
 
     def __reduce__(self) -> tuple[Any, ...]:
-        return Report, (self.text.splitlines(), self.refused, self.tick, self.roundings, self.phases)
+        return Report, (self.text.splitlines(), self.refused, self.tick, self.roundings, self.phases, self.clocks)
 
     def __hash__(self) -> int:
         return hash(self.text)
@@ -301,9 +306,14 @@ def frame(rows: Iterable[Any], drop: tuple[str, ...] = ()) -> "DataFrame":
 
 
 def reports(
-    text: str, tick: Time | None = None, roundings: Iterable[Rounding] = (), phases: Phases | None = None
+    text: str,
+    tick: Time | None = None,
+    roundings: Iterable[Rounding] = (),
+    phases: Phases | None = None,
+    clocks: Iterable[str] = (),
 ) -> list[Report]:
-    """The reports in what `analyse` or `session` wrote; `phases` are those of the system of all of them."""
+    """The reports in what `analyse` or `session` wrote; `phases` and `clocks` are those of the system of all of
+    them."""
     found: list[Report] = []
     rows: list[str] = []
     refused: dict[int, int] = {}
@@ -313,7 +323,7 @@ def reports(
             continue
         rows.append(line)
         if line.startswith("summary "):
-            found.append(Report(rows, refused, tick, roundings, phases))
+            found.append(Report(rows, refused, tick, roundings, phases, clocks))
             rows, refused = [], {}
     if not found or rows or refused:
         raise Unreadable("there is no whole report; its last line begins with summary")
