@@ -21,8 +21,7 @@ from tests.against_rules.check_queues import takes
 from tests.rules.bounds import System
 from tests.rules.runs import Run, plain
 from tests.support import beside_rules
-from tests.support.beside_rules import PROGRAM
-from tests.support.calls import NEEDS_PROGRAM, hold, outcome, written
+from tests.support.calls import NEEDS_PROGRAM, built, check_all, hold, outcome, written
 from tests.support.lock_systems import system_with_locks
 from tests.support.queue_systems import some_edit
 from tests.support.systems import file_of
@@ -232,7 +231,7 @@ def check_by_hand(folder):
     for text, events, told in FOLLOWED:
         trace = "".join(f"event,{source},{time}\n" for source, times in events.items() for time in times)
         file = written(folder, "worked.toml", text)
-        wrote = outcome(PROGRAM, "schedule", file, written(folder, "worked.csv", trace))
+        wrote = outcome(built("cpa_cli"), "schedule", file, written(folder, "worked.csv", trace))
         hold(wrote == (told, 0), f"{text}{trace}{wrote[0]}", "worked runs")
 
 
@@ -282,7 +281,7 @@ def check_orders(folder, number, system, on, tally):
     draw, tasks = random.Random(f"orders {number} {on}"), [it for it in system["task"] if it["on"] == on]
     deadlines = {it["name"]: draw.randint(it["worst"], 40) for it in tasks if draw.random() < 0.8}
     paths = [{"name": f"p{name}", "tasks": [name], "deadline": most} for name, most in deadlines.items()]
-    wrote, status = outcome(PROGRAM, "assign", written(folder, "orders.toml", file_of(system | {"path": paths})), on)
+    wrote, status = outcome(built("cpa_cli"), "assign", written(folder, "orders.toml", file_of(system | {"path": paths})), on)
     what, names = f"system {number}: assign {on} with {deadlines}", {it["name"] for it in system["task"]}
     if any(names.intersection(it["after"]) for it in tasks):
         hold((wrote, status) == ("assign refused 3\n", 18), f"{what}: {wrote}", "orders")
@@ -313,4 +312,4 @@ if __name__ == "__main__":
     COUNTED = (
         "{reached} of {bounds} bounds under ceilings are reached by a run; {ordered} orders, and {none} times none; "
     )
-    beside_rules.check_all(__doc__, 1000, NEEDS_PROGRAM, [check_by_hand, check_all_small], check_system, COUNTED)
+    check_all(__doc__, 1000, NEEDS_PROGRAM, [check_by_hand, check_all_small], check_system, COUNTED)

@@ -19,7 +19,7 @@ from tests.rules.edits import MOST_TICKS, is_too_long
 from tests.rules.runs import Run, least_apart, simulated_text
 from tests.support import beside_rules
 from tests.support.beside_rules import PROGRAM
-from tests.support.calls import NEEDS_PROGRAM, hold, outcome, written
+from tests.support.calls import NEEDS_PROGRAM, check_all, hold, outcome, written
 from tests.support.clocked_systems import system_on_clocks, trace_on_clocks, without_clocks
 from tests.support.systems import file_of, rows_of
 
@@ -166,4 +166,4 @@ def check_system(folder, number, tally):
 
 if __name__ == "__main__":
     COUNTED = "{lower} of {bounds} bounds are lower by clocks; "
-    beside_rules.check_all(__doc__, 1000, NEEDS_PROGRAM, [check_by_hand], check_system, COUNTED)
+    check_all(__doc__, 1000, NEEDS_PROGRAM, [check_by_hand], check_system, COUNTED)

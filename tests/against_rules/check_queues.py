@@ -14,7 +14,7 @@ import random
 from tests.rules.bounds import OVERLOAD, System
 from tests.support import beside_rules
 from tests.support.beside_rules import PROGRAM
-from tests.support.calls import NEEDS_PROGRAM, hold, outcome, written
+from tests.support.calls import NEEDS_PROGRAM, check_all, hold, outcome, written
 from tests.support.queue_systems import some_edit, system_with_queues
 
 
@@ -150,4 +150,4 @@ def check_system(folder, number, tally):
 
 if __name__ == "__main__":
     COUNTED = "{reached} of {bounds} bounds on queues are reached by a run; "
-    beside_rules.check_all(__doc__, 1000, NEEDS_PROGRAM, [check_by_hand], check_system, COUNTED)
+    check_all(__doc__, 1000, NEEDS_PROGRAM, [check_by_hand], check_system, COUNTED)

@@ -11,12 +11,12 @@ response is above that, and neither is the work that is pending in a queue.
 must tell the first place that differs, with what is expected there. `schedule` must write the schedule that was
 recorded here, and of that `audit` must say that it is the run's.
 
-    python3 -m tests.against_rules.check_runs [COUNT, 300 if absent] [SEED, 1 if absent]
+    python3 -m tests.against_rules.check_runs [NUMBER of systems, 300 if absent] [NUMBER to begin with, 0 if absent]
 """
 import random
 
 from tests.support import beside_rules
-from tests.support.calls import NEEDS_PROGRAM
+from tests.support.calls import NEEDS_PROGRAM, check_all
 from tests.support.systems import random_system, random_trace
 
 
@@ -28,4 +28,4 @@ def check_system(folder, number, _):
 
 
 if __name__ == "__main__":
-    beside_rules.check_all(__doc__, 300, NEEDS_PROGRAM, [], check_system, "")
+    check_all(__doc__, 300, NEEDS_PROGRAM, [], check_system, "")

@@ -1,12 +1,9 @@
 """What several checks hold of the program beside the plain rules: files worked out by hand, reports of random systems,
 runs, scripts, and calls of `hammer` and `assign`. What is written of a system stands in one folder."""
-import re
-import tempfile
-
 from tests.rules.bounds import OVERLOAD, System, bounds_in
 from tests.rules.edits import Edited
 from tests.rules.runs import Run, audit_text, buffers_text, schedule_text, simulated_text
-from tests.support.calls import built, hold, outcome, range_of, tell, written
+from tests.support.calls import built, hold, outcome, written
 from tests.support.systems import file_of, near_trace, random_trace, rows_of
 
 PROGRAM = built("cpa_cli")
@@ -127,14 +124,3 @@ def check_system(folder, draw, number, system, some_edit, kind, tally):
     check_runs(folder, draw, number, system, report, (random_trace, near_trace, random_trace), kind, tally)
     check_edits(folder, draw, number, system, some_edit)
     check_hammer(folder, number)
-
-
-def check_all(doc, count, needs, before, check_system, counted):
-    """A check: what comes before random systems, these, and a line of what is counted of them."""
-    numbers, tally = range_of(doc, count, needs), dict.fromkeys(re.findall(r"{(\w+)}", counted), 0)
-    with tempfile.TemporaryDirectory() as folder:
-        for check in before:
-            check(folder)
-        for number in numbers:
-            check_system(folder, number, tally)
-    tell(counted.format(**tally))

@@ -73,6 +73,17 @@ def range_of(doc: str | None, count: int, needs: str = NEEDS_PROGRAM) -> range:
     return range(words.first, words.first + words.count)
 
 
+def check_all(doc, count, needs, before, check_system, counted):
+    """A check of random systems: what comes before them, these, and a line of what is counted of them."""
+    numbers, tally = range_of(doc, count, needs), dict.fromkeys(re.findall(r"{(\w+)}", counted), 0)
+    with tempfile.TemporaryDirectory() as folder:
+        for check in before:
+            check(folder)
+        for number in numbers:
+            check_system(folder, number, tally)
+    tell(counted.format(**tally))
+
+
 def without_progress(text: str) -> str:
     """What a tool tells on standard error, without how far it is, which is told where a call takes long."""
     return "".join(line for line in text.splitlines(True) if not PROGRESS.fullmatch(line.rstrip("\n")))

@@ -18,12 +18,11 @@ import os
 import random
 import signal
 import subprocess
-import tempfile
 import time
 
 from lokwurmi_tools.shared.system_text import toml_of
 from tests.rules.bounds import System
-from tests.support.calls import TOP, built, hold, range_of, run, tell, tool, written
+from tests.support.calls import NEEDS_PROGRAM, TOP, built, check_all, hold, run, tool, written
 
 PROGRAM = built("cpa_cli")
 PARTS = 1_000_000_000
@@ -282,17 +281,6 @@ def check_ends(folder):
     hold(text and json.loads(text)["tries"] > 1, f"an interrupt: {text}", "ends")
 
 
-def main():
-    numbers = range_of(__doc__, 20)
-    tally = {"searched": 0, "best": 0}
-    with tempfile.TemporaryDirectory() as folder:
-        check_hand(folder)
-        check_refused(folder)
-        check_ends(folder)
-        for number in numbers:
-            check_system(folder, number, tally)
-    tell(f"of {tally['searched']} searches of 25 tries {tally['best']} find the best; ")
-
-
 if __name__ == "__main__":
-    main()
+    COUNTED = "of {searched} searches of 25 tries {best} find the best; "
+    check_all(__doc__, 20, NEEDS_PROGRAM, [check_hand, check_refused, check_ends], check_system, COUNTED)
