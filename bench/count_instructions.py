@@ -21,7 +21,7 @@ import tomllib
 
 from bench import time_activators
 from bench.time_analyse import PROGRAM, systems
-from tests.support.calls import NEEDS_PROGRAM, reader_of
+from tests.support.calls import NEEDS_PROGRAM, reader_of, written
 
 # of cpa_fix; in older builds it stood in a module `analysis` of cpa_run or cpa_cli
 ANALYSIS = ("::solving::least_bounds", "::analysis::least_bounds")
@@ -90,13 +90,6 @@ def measure(program, whole, part, folder):
     return call, call - count(program, folder, "analyse", part)[0], alone, report
 
 
-def write(folder, name, text):
-    file = os.path.join(folder, name)
-    with open(file, "w", encoding="ascii") as out:
-        out.write(text)
-    return file
-
-
 def more_than(counts, texts, most):
     """Whether the last program takes more than the first, by more than so many per cent, or writes another text."""
     is_more = most is not None and 100 * counts[-1] > (100 + most) * counts[0]
@@ -123,13 +116,13 @@ def main():
     programs, wrong = words.programs or [PROGRAM], 0
     with tempfile.TemporaryDirectory() as folder:
         for name, make in made().items():
-            whole, part = write(folder, "system.toml", make()), write(folder, "refused.toml", refused(make()))
+            whole, part = written(folder, "system.toml", make()), written(folder, "refused.toml", refused(make()))
             found = [measure(program, whole, part, folder) for program in programs]
             columns = [number for *numbers, _ in found for number in numbers]
             wrong += tell(name, columns, [it[0] for it in found], [it[-1] for it in found], words.most)
         for name in SIMULATED:
             system = made()[name]()
-            files = write(folder, "system.toml", system), write(folder, "trace.csv", traced(system))
+            files = written(folder, "system.toml", system), written(folder, "trace.csv", traced(system))
             found = [count(program, folder, "simulate", *files) for program in programs]
             counts = [number for number, _ in found]
             wrong += tell(f"simulate {name}", counts, counts, [text for _, text in found], words.most)

@@ -16,7 +16,7 @@ import tempfile
 import time
 
 from bench.timing import names_of
-from tests.support.calls import TOP
+from tests.support.calls import TOP, written
 
 PROGRAM = os.path.join(TOP, "crates/cpa_cli/out/cpa_cli")
 KINDS = {"preemptive": "preemptive", "round-robin": "round-robin", "tdma": "tdma", "can": "can"}
@@ -138,9 +138,7 @@ def main():
     print(f"processors: {os.cpu_count()}")
     with tempfile.TemporaryDirectory() as folder:
         for name in names:
-            path = os.path.join(folder, "sys")
-            with open(path, "w") as file:
-                file.write(made[name]())
+            path = written(folder, "sys", made[name]())
             runs = [call(path)]
             while len(runs) < 5 and runs[0][0] < 2:
                 runs.append(call(path))

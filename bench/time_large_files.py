@@ -13,7 +13,7 @@ import subprocess
 import time
 
 from bench.timing import folder_of
-from tests.support.calls import NEEDS_PROGRAM, TOP
+from tests.support.calls import NEEDS_PROGRAM, TOP, written
 
 MOST = 1_048_576
 HEAD = 'format=2\nresource=[{name="c",kind="preemptive"}]\nsource=[{name="s",period=9}]\ntask=[\n'
@@ -75,9 +75,7 @@ def main():
     made += [("task_after_a_list", task_after_a_list), ("paths_over_a_list", paths_over_a_list)]
     for name, make in made:
         n, whole = make()
-        path = os.path.join(folder, name + ".toml")
-        with open(path, "w") as file:
-            file.write(whole)
+        path = written(folder, name + ".toml", whole)
         times = []
         for _ in range(5):
             start = time.perf_counter()

@@ -17,7 +17,7 @@ import subprocess
 import tempfile
 
 from bench.timing import least, names_of
-from tests.support.calls import TOP, built
+from tests.support.calls import TOP, built, written
 
 PROGRAM = built("cpa_cli")
 
@@ -42,9 +42,7 @@ def system(kind, count, turned, deadlines, share=6, limit=10_000_000):
 
 def bounds(folder, kind, count):
     """The bounds of the tasks, by the priorities that they have."""
-    path = os.path.join(folder, "bounds")
-    with open(path, "w", encoding="utf-8") as file:
-        file.write(system(kind, count, False, {}))
+    path = written(folder, "bounds", system(kind, count, False, {}))
     told = subprocess.run([PROGRAM, "analyse", path], capture_output=True, text=True, check=False).stdout
     return {int(k): int(bound) for k, bound in re.findall(r"^task t(\d+) .* worst (\d+)$", told, re.M)}
 
@@ -76,12 +74,9 @@ def forms(folder):
 def main():
     names = names_of(__doc__, FORMS)
     with tempfile.TemporaryDirectory() as folder:
-        path = os.path.join(folder, "system")
         made = forms(folder)
         for name in names:
-            text = made[name]
-            with open(path, "w", encoding="utf-8") as file:
-                file.write(text)
+            path = written(folder, "system", made[name])
             seconds, peak, last = least(
                 [PROGRAM, "assign", path, "r"], 5 if "64" in name else 1 if "long" in name else 2
             )

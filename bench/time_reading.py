@@ -11,7 +11,7 @@ calls, and the peak memory of a call.
 import os
 
 from bench.timing import folder_of, show
-from tests.support.calls import built
+from tests.support.calls import built, written
 
 MOST = 1_048_576
 
@@ -93,9 +93,7 @@ def main():
     print(f"processors: {os.cpu_count()}")
     for make in (comments, largest, many):
         text = make()
-        path = os.path.join(folder, make.__name__ + ".toml")
-        with open(path, "w") as file:
-            file.write(text)
+        path = written(folder, make.__name__ + ".toml", text)
         ways = [(way, [reader, "reading", way, path]) for way in ("load", "toml", "system")]
         ways.append(("analyse", [program, "analyse", path]))
         for way, command in ways:

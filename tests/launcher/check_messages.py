@@ -40,7 +40,7 @@ from lokwurmi.files.documents import Document
 from lokwurmi.refusals import edits, front, notices, schedule, script
 from lokwurmi.refusals.toml_faults import fault_in
 from lokwurmi.refusals.trace import TraceOfSystem
-from tests.support.calls import TOP, example_systems, reader_of
+from tests.support.calls import TOP, example_systems, reader_of, written
 from tests.support.damage import damaged, damaged_rows, damaged_script, with_locks, with_queues, with_regions
 
 CASES = os.path.join(TOP, "tests", "messages")
@@ -326,9 +326,9 @@ def check_look(room: str) -> int:
     """Colours in a terminal alone, nothing where it is to be quiet, and no letter of a file that a terminal would
     obey."""
     wrong = 0
-    file = os.path.join(room, "s.toml")
-    with open(file, "w", encoding="utf-8") as it:
-        it.write('format = 1\nsource = [{ name = "\\u001b[31m", period = 10 }] # \x1b\n'.replace("\x1b", ""))
+    file = written(
+        room, "s.toml", 'format = 1\nsource = [{ name = "\\u001b[31m", period = 10 }] # \x1b\n'.replace("\x1b", "")
+    )
     call = shlex.join([os.path.join(TOP, "lokwurmi"), "analyse", file])
     plain = {key: value for key, value in os.environ.items() if key not in ("LOKWURMI_QUIET", "NO_COLOR")} | {
         "TERM": "xterm"

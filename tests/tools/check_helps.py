@@ -177,11 +177,9 @@ def check_call():
 def main():
     numbers = range_of(__doc__, 400)
     with tempfile.TemporaryDirectory() as room:
-        file = os.path.join(room, "system.toml")
         for number in numbers:
             system = made(number)
-            with open(file, "w", encoding="ascii") as it:
-                it.write(toml_of(system))
+            file = written(room, "system.toml", toml_of(system))
             analysis = analysed(PROGRAM, file)
             for path in analysis.view.paths:
                 check_path(f"system {number}, path {path}", system, analysis, path)

@@ -19,7 +19,6 @@ import math
 import os
 import random
 import re
-import subprocess
 import sys
 import tempfile
 from typing import NamedTuple
@@ -31,7 +30,7 @@ from lokwurmi_tools.shared.system_text import toml_of
 from tests.rules import effect_chains
 from tests.rules.bounds import OVERLOAD
 from tests.support import chain_files
-from tests.support.calls import NEEDS_PROGRAM, TOP, add_number, answer, built, reader_of, run, written
+from tests.support.calls import NEEDS_PROGRAM, TOP, add_number, answer, built, outcome, reader_of, run, written
 from tests.support.systems import some_region
 
 PROGRAM = built("cpa_cli")
@@ -139,14 +138,11 @@ def is_there(system, room):
         return None, wanted
     # a session takes 10,000 lines: the next one begins with the order of the one before
     at, lines, tried, found = {it["name"]: it["priority"] for it in system["task"]}, ["report"], 0, False
-    file, script = os.path.join(room, "all.toml"), os.path.join(room, "all.script")
 
     def flush(begin):
-        with open(file, "w", encoding="ascii") as it:
-            it.write(toml_of(system | {"task": [task | {"priority": begin[task["name"]]} for task in system["task"]]}))
-        with open(script, "w", encoding="ascii") as it:
-            it.write("\n".join(lines) + "\n")
-        told = subprocess.run([PROGRAM, "session", file, script], stdout=subprocess.PIPE, text=True, check=False).stdout
+        text = toml_of(system | {"task": [task | {"priority": begin[task["name"]]} for task in system["task"]]})
+        files = written(room, "all.toml", text), written(room, "all.script", "\n".join(lines) + "\n")
+        told, _ = outcome(PROGRAM, "session", *files)
         assert "refused" not in told
         return told.count(" overload 0 missed 0\n")
 
@@ -164,14 +160,8 @@ def is_there(system, room):
 def holds(system, search, order, room):
     """Whether the program accepts the system with an order, by the edits that are written for it."""
     search.best = order
-    file, script = os.path.join(room, "given.toml"), os.path.join(room, "edits")
-    for path, text in ((file, toml_of(system)), (script, "".join(line + "\n" for line in search.script()))):
-        with open(path, "w", encoding="ascii") as it:
-            it.write(text)
-    return (
-        subprocess.run([PROGRAM, "session", file, script], stdout=subprocess.PIPE, text=True, check=False).returncode
-        == 0
-    )
+    script = written(room, "edits", "".join(line + "\n" for line in search.script()))
+    return outcome(PROGRAM, "session", written(room, "given.toml", toml_of(system)), script)[1] == 0
 
 
 class Row(NamedTuple):
@@ -189,9 +179,7 @@ class Row(NamedTuple):
 def looked_at(number, large, tight, room):
     """What is found of a system."""
     system = made(number, large, tight)
-    file = os.path.join(room, "system.toml")
-    with open(file, "w", encoding="ascii") as it:
-        it.write(toml_of(system))
+    file = written(room, "system.toml", toml_of(system))
     search = PrioritySearch(analysed(PROGRAM, file), PriorityOptions(), room)
     by = {how: holds(system, search, order, room) for how, order in search.starts()}
     search.best = None
@@ -238,9 +226,7 @@ def check_calls():
         sys.exit(f"{file}: {told}")
     with open(file, encoding="utf-8") as it, tempfile.TemporaryDirectory() as room:
         text = it.read().replace("priority = 2 }", "priority = 2, region = 2 }")
-        late = os.path.join(room, "late.toml")
-        with open(late, "w", encoding="ascii") as other:
-            other.write(re.sub(r"^format = \d", "format = 4", text, flags=re.M))
+        late = written(room, "late.toml", re.sub(r"^format = \d", "format = 4", text, flags=re.M))
         done = run("optimise", "--program", PROGRAM, late, "--rounds", "1", "--restarts", "0")
     if done.returncode != 3 or "regions stay as they are" not in done.stdout:
         sys.exit(f"regions: {done.returncode} {done.stdout} {done.stderr}")
@@ -330,9 +316,7 @@ task = [
 def check_overloaded():
     """Where a resource is asked for more than all of the time nothing is searched, and the load is told."""
     with tempfile.TemporaryDirectory() as room:
-        file = os.path.join(room, "too_much.toml")
-        with open(file, "w", encoding="ascii") as it:
-            it.write(TOO_MUCH)
+        file = written(room, "too_much.toml", TOO_MUCH)
         done = run("optimise", "--program", PROGRAM, file)
         told = json.loads(run("optimise", "--program", PROGRAM, file, "--json").stdout)
         with open(file, "w", encoding="ascii") as it:

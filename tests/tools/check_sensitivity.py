@@ -194,9 +194,7 @@ def check_sections(what, system, rows):
 
 def check_system(number, system, room, deadlines, goals):
     """Each number of a system, by files of its own."""
-    file = os.path.join(room, "system.toml")
-    with open(file, "w", encoding="ascii") as it:
-        it.write(toml_of(system))
+    file = written(room, "system.toml", toml_of(system))
     question = margin_question.MarginQuestion(analysed(PROGRAM, file), goals, deadlines)
     first = judged(system, goals, deadlines)
     now = question.now()

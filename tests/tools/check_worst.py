@@ -20,7 +20,7 @@ import tempfile
 import time
 
 from tests.rules.runs import replayed, system_in
-from tests.support.calls import TOP, hold, run, tell, tool
+from tests.support.calls import TOP, hold, run, tell, tool, written
 from tests.support.pictures import lines_of
 
 TOOL = "worst"
@@ -248,9 +248,7 @@ exec "$PROGRAM" "$@"
 def check_seconds(program):
     """A search ends some seconds after its time at the latest, in each of its forms and with a slow program too."""
     with tempfile.TemporaryDirectory() as room:
-        slow = os.path.join(room, "slow")
-        with open(slow, "w", encoding="ascii") as it:
-            it.write(SLOW)
+        slow = written(room, "slow", SLOW)
         os.chmod(slow, 0o755)
         trace, folder = os.path.join(room, "trace.csv"), os.path.join(room, "traces")
         for words in (
