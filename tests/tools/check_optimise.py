@@ -334,6 +334,27 @@ def check_overloaded():
         sys.exit(f"no more than all of the time: {full}")
 
 
+def check_without_orders():
+    """Where no two tasks of a resource have priorities, one order is looked at, and no more: here a queue before a
+    processor with one task. The path takes 3 ticks of its task, and its deadline is 2."""
+    text = """format = 4
+resource = [{ name = "gate", kind = "fifo" }, { name = "cpu", kind = "preemptive" }]
+source = [{ name = "s", period = 10 }]
+task = [
+  { name = "a", on = "gate", after = "s", best = 1, worst = 3 },
+  { name = "b", on = "cpu", after = "a", best = 1, worst = 1, priority = 1 },
+]
+path = [{ name = "p", tasks = ["a"], deadline = 2 }]
+"""
+    with tempfile.TemporaryDirectory() as room:
+        file = written(room, "queue.toml", text)
+        done = run("optimise", "--program", PROGRAM, file)
+    wanted = "not found after 1 order, the best by the order of the file: p misses its deadline by 1"
+    told = "no order can do: no two tasks of a resource have priorities that could change places"
+    if done.returncode != 3 or wanted not in done.stdout or told not in done.stdout:
+        sys.exit(f"no orders: {done.returncode} {done.stdout} {done.stderr}")
+
+
 def main():
     reader = reader_of(__doc__, "10 2", NEEDS_PROGRAM)
     add_number(reader, "small", 100, "how many small systems")
@@ -342,6 +363,7 @@ def main():
     words = reader.parse_args()
     check_calls()
     check_overloaded()
+    check_without_orders()
     check_chains(max(2, words.small // 5), words.first)
     kinds = [("small", False, words.small, 0.8)]
     kinds += [(f"large, from {tight} of the deadline on", True, words.large, tight) for tight in TIGHT]

@@ -138,6 +138,10 @@ class PrioritySearch:
         """Which deadlines of chains no order meets, since a task waits for a sporadic source."""
         return self.chains.silences() if self.chains else []
 
+    def has_orders(self) -> bool:
+        """Whether two tasks of some resource have priorities: then these may change places."""
+        return any(len(names) > 1 for names in self.given.values())
+
     def is_over(self) -> bool:
         return self.until is not None and time.monotonic() > self.until
 
@@ -364,7 +368,7 @@ class PrioritySearch:
 
     def run(self) -> None:
         """Goes through all that is known, until an order holds; where none can, only that of the file is looked at."""
-        if self.view.overloaded() or self.silences():
+        if self.view.overloaded() or self.silences() or not self.has_orders():
             self.look(self.given, "the order of the file")
             return
         for how, order in self.starts():

@@ -55,12 +55,6 @@ def json_text(search: PrioritySearch, verdict: OrderVerdict) -> str:
     return json.dumps({**found, **late, "order": search.changed(), "edits": search.script(), **chains}, indent=1)
 
 
-def has_orders(search: PrioritySearch) -> bool:
-    """Whether two tasks of some resource have priorities: then these may change places."""
-    placed = [it["on"] for it in search.view.values["task"] if "priority" in it]
-    return len(set(placed)) < len(placed)
-
-
 def lines_of(search: PrioritySearch, verdict: OrderVerdict) -> list[str]:
     """The same in lines."""
     head, by = ("found", "by") if verdict.holds else ("not found", "the best by")
@@ -71,7 +65,7 @@ def lines_of(search: PrioritySearch, verdict: OrderVerdict) -> list[str]:
     for on, share in search.view.overloaded().items():
         lines.append(f"no order can do: the utilisation of {on} is {above(share)} %, whatever the priorities are")
     lines += [f"no order can do: {it}" for it in search.silences()]
-    if not verdict.holds and not has_orders(search):
+    if not verdict.holds and not search.has_orders():
         lines.append("no order can do: no two tasks of a resource have priorities that could change places")
     elif not verdict.holds and not search.view.overloaded() and not search.silences():
         lines.append("there may be an order still: the search proves nothing about what it didn't try")
