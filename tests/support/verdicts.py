@@ -113,7 +113,16 @@ def check_pipes(tools, name, files):
     hold(done.stderr == "", f"{name}, whose reader ends early: {done.stderr}")
     done = subprocess.run(f"{words} >/dev/full", shell=True, capture_output=True, text=True, check=False)
     hold(done.returncode == 20 and done.stderr.count("\n") == 1, f"{name} >/dev/full: {done.stderr}")
+    check_refused_pipe(tools, name, files)
     check_long_pipe(tools, name, files)
+
+
+def check_refused_pipe(tools, name, files):
+    """A pipe with a file of chains that is refused: the line and the word are told, by the name that was given."""
+    text = 'format = 1\nchain = [{ name = "x", tasks = ["a", "zz"] }]\n'
+    done = tools.call(name, *files[:1], *files[1:2] * (name == "diff"), "--chains", "/dev/stdin", given=text)
+    told = '/dev/stdin:2:38: chain "x": no task is called "zz"'
+    hold(done.returncode == 18 and told in done.stderr, f"{name} of refused chains: {done.returncode} {done.stderr}")
 
 
 def check_long_pipe(tools, name, files):

@@ -16,6 +16,7 @@ from lokwurmi_tools.page.system_tables import PageSystem, percent
 from lokwurmi_tools.reports.judging import Given, room
 from lokwurmi_tools.search.chain_goals import ChainGoals
 from lokwurmi_tools.shared.analysed import analysed
+from lokwurmi_tools.shared.faults import Fault
 from lokwurmi_tools.shared.packages import need
 from lokwurmi_tools.shared.system_file import noticed_in
 from lokwurmi_tools.shared.times import Scale, text_of
@@ -128,8 +129,12 @@ def write_page(options: PageOptions) -> int:
     system = PageSystem(analysed(options.program, options.file), Scale(options.tick))
     with room() as folder:
         # a pipe of chains is read several times
-        chains = options.chains and Given(options.chains, folder).path
-        put(page_of(replace(options, chains=chains), system), options.to)
+        given = Given(options.chains, folder) if options.chains else None
+        try:
+            put(page_of(replace(options, chains=given and given.path), system), options.to)
+        except Fault as fault:
+            fault.args = (str(fault).replace(given.path, given.name) if given else str(fault),)
+            raise
     for it in system.explained.faults:
         print(f"lokwurmi page: an error of this command: {it}", file=sys.stderr)
     if system.explained.faults:

@@ -66,9 +66,7 @@ def answered(program: str, command: str, *files: Given) -> str:
     status, text = call(program, command, *(it.path for it in files))
     if 0 <= status < NO_WORDS:
         return text
-    for it in files:
-        text = text.replace(it.path, it.name)
-    end_refused(status, text, command, *(it.name for it in files))
+    end_refused(status, text, command, *(it.path for it in files), names={it.path: it.name for it in files})
 
 
 def time_of(tick: Fraction | None) -> Time | None:

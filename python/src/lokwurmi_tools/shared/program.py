@@ -4,6 +4,7 @@ import shlex
 import shutil
 import subprocess
 import sys
+from collections.abc import Mapping
 from pathlib import Path
 from typing import NoReturn
 
@@ -45,13 +46,17 @@ def call(program: str, *words: str) -> tuple[int, str]:
     return done.returncode, done.stdout
 
 
-def end_refused(status: int, text: str, *words: str) -> NoReturn:
-    """Ends the tool by the status of a refusal or a fault, with what `lokwurmi` says of it."""
+def end_refused(status: int, text: str, *words: str, names: Mapping[str, str] | None = None) -> NoReturn:
+    """Ends the tool by the status of a refusal or a fault, with what `lokwurmi` says of it; `names` are those by which
+    files were given of which copies were read."""
     from lokwurmi_tools.shared.system_file import told_of
 
     line = text.strip().split("\n", 1)[0]
-    print(f"lokwurmi {shlex.join(words)}: status {status}: {line or 'nothing is written'}", file=sys.stderr)
-    sys.stderr.write(told_of(status, line, *words) or 'docs/FILES.md, "Statuses", tells what to do\n')
+    told = f"lokwurmi {shlex.join(words)}: status {status}: {line or 'nothing is written'}\n"
+    told += told_of(status, line, *words) or 'docs/FILES.md, "Statuses", tells what to do\n'
+    for copy, name in (names or {}).items():
+        told = told.replace(copy, name)
+    sys.stderr.write(told)
     raise Told(status)
 
 
