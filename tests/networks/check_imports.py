@@ -266,7 +266,11 @@ def check_gateway_queue(room):
         hold(is_passed and path in system["path"], f"--gateway-queue: {tasks} {system['path']}")
     gate = {"name": "gate", "kind": "fifo"}
     hold(gate in system["resource"] and system["format"] == 4 and len(tasks) == 8, f"--gateway-queue: {text}")
-    hold("by its queue gate, in the order in which frames come, each in up to 200us" in told, told)
+    ways = "in the order in which frames come, each in up to 200us, and in no less than a tick, 1us"
+    hold(f"by its queue gate, {ways}" in told, told)
+    for name in ("my gate", 25 * "g"):
+        done = said_by("import network", *words, "--gateway-queue", f"{name}=200us")
+        hold(f"'{name}' is no name of a queue" in done, f"--gateway-queue {name}: {done}")
     system = imported(*words, "--gateway-queue", "100ns")[0]
     hold({"name": "gateway", "kind": "fifo"} in system["resource"], f"--gateway-queue without a name: {system}")
     hold([it["worst"] for it in system["task"] if it["on"] == "gateway"] == [1, 1], f"rounded up: {system}")

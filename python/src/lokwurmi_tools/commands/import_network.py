@@ -58,7 +58,9 @@ def rate_of_bus(word: str) -> tuple[str, int]:
 def queue_of(word: str) -> tuple[str, Fraction]:
     """What --gateway-queue takes: how long a frame takes in a queue, and before it the name of that."""
     name, _, time = word.rpartition("=")
-    return plain(name)[:24] if name else "gateway", time_of(time)
+    if name and name != plain(name)[:24]:
+        raise ValueError(f"{name!r} is no name of a queue: write up to 24 letters, digits, _, - and .")
+    return name or "gateway", time_of(time)
 
 
 def millionths(word: str) -> Fraction:
