@@ -8,9 +8,7 @@ from lokwurmi.calls.engines import Engine
 def need_engine(command: str = "analyse") -> None:
     """Skips a test where nothing answers a command."""
     try:
-        engine = default_engine(command)
-        if isinstance(engine, Program):
-            engine._start(command)
+        default_engine(command)
     except NoEngine as fault:
         raise unittest.SkipTest(str(fault))
 
@@ -29,10 +27,7 @@ def some_engines(command: str = "analyse") -> list[Engine]:
     for kind in (Library, Program):
         try:
             engine = kind()
-            if isinstance(engine, Program):
-                engine._start(command)
-                found.append(engine)
-            elif engine.has(command):
+            if isinstance(engine, Program) or engine.has(command):
                 found.append(engine)
         except NoEngine:
             continue
