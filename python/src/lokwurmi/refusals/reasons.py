@@ -91,8 +91,7 @@ WORD_REASONS = {
     ("assign", 1): "no resource has the name",
     ("assign", 2): "its tasks have no priorities",
     ("assign", 3): "a task on it has a task among its activators",
-    ("assign", 4): "a task on it comes after a source on a clock, and it is a bus, or a task on it has a region",
-    ("assign", 5): "it has priority ceilings",
+    ("assign", 4): "a task on it comes after a source on a clock, and it is a bus, or a task has a region or a lock",
     ("slack", 1): "no task has the name",
 }
 """Why the resource of `assign` or the task of `slack` is refused."""
