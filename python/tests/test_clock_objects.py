@@ -140,8 +140,8 @@ class Phases(unittest.TestCase):
         self.assertNotIn("from the start of a clock on", plain._repr_html_())
 
     def test_premise(self) -> None:
-        """Whether bounds presume the clock: on a processor they do, and in a queue they know nothing of it. A script may
-        change that, so that its reports name each clock."""
+        """Whether bounds presume the clock: on a processor they do, and in a queue they know nothing of it. A script
+        may change that, so that its reports name each clock."""
         need_engine()
         premise, system = "Holds while the node doesn&#x27;t begin anew", station()
         report = system.analyse()

@@ -510,8 +510,8 @@ class Taker:
             return "a gateway passes on at once; where it takes time, --gateway-queue TIME"
         name, time = self.options.gateway_queue
         return (
-            f"a gateway passes on by its queue {name}, in the order in which frames come, each in up to {text_of(time)},"
-            f" and in no less than a tick, {text_of(self.options.tick)}"
+            f"a gateway passes on by its queue {name}, in the order in which frames come, each in up to"
+            f" {text_of(time)}, and in no less than a tick, {text_of(self.options.tick)}"
         )
 
     def tell_same_names(self) -> None:
