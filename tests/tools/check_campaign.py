@@ -17,7 +17,7 @@ import signal
 import subprocess
 import time
 
-from tests.support.calls import written
+from tests.support.calls import TOP, written
 from tests.support.campaigns import (
     CAR,
     CROSSING,
@@ -375,6 +375,12 @@ def grids(folder):
     exchanged = '[[vary]]\ntask = "a2"\npriority = [1, 2]\n[[vary]]\ntask = "b1"\npriority = [1, 2]\n'
     refused = [it["verdict"] == "refused" for it in rows_of(variants(folder, exchanged))]
     hold(refused == [True, False, False, True], "priorities that are exchanged don't get into each other's way")
+    one = '[[vary]]\nsource = "s_speed"\njitter = [50]\n'
+    told = [
+        "if sources on a clock keep their distances" in variants(folder, text, system=system).stderr
+        for text, system in ((one, os.path.join(TOP, "examples", "offsets.toml")), (exchanged, CROSSING))
+    ]
+    hold(told == [True, False], "what bounds presume of clocks is told")
     several = (
         '[[vary]]\ntask = "a1"\nexecution = [[1, 2], [5, 10], [5, 80]]\n[[vary]]\nsource = "sb"\n'
         'jitter = [0, 9]\n[[vary]]\nscripts = ["", "add c p sb 1 2 9\\n"]\n'

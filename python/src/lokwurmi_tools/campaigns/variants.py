@@ -9,12 +9,13 @@ from typing import Any
 
 from lokwurmi.model.limits import MOST_PRIORITY
 from lokwurmi.model.view import SystemView
+from lokwurmi.refusals.remark import printable
 from lokwurmi_tools.campaigns.campaign_faults import Wrong
 from lokwurmi_tools.campaigns.campaign_options import VariantOptions
 from lokwurmi_tools.campaigns.engine import Unit, run
 from lokwurmi_tools.campaigns.grids import Entry, columns_of, fronted, read_grid, row_of, script_of
 from lokwurmi_tools.campaigns.kept import KeptAnswers
-from lokwurmi_tools.shared.system_file import read_system
+from lokwurmi_tools.shared.system_file import clock_words_of, read_system
 
 # how many variants a campaign may have, and how many sessions a worker is handed at once
 MOST_VARIANTS, TOGETHER = 100_000, 25
@@ -72,4 +73,6 @@ def variants(options: VariantOptions, kept: KeptAnswers) -> int:
     table.writeheader()
     for place, row in enumerate(all_of.rows()):
         table.writerow(row | ({"front": int(place in marked)} if front else {}))
+    for it in clock_words_of(view):
+        print(f"{printable(options.file)}: notice: {it}", file=sys.stderr)
     return 0
