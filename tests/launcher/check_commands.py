@@ -21,6 +21,7 @@ import time
 from collections.abc import Callable
 from pathlib import Path
 
+from bench import plan_gate
 from lokwurmi.model.commands import FILES
 from lokwurmi_tools.commands import catalogue as commands
 from lokwurmi_tools.launcher import completing, helping, manual
@@ -240,7 +241,8 @@ def longest_chain(top: str, seconds: dict[str, int]) -> list[str]:
 
 
 def check_times(faults: Faults) -> None:
-    """docs/MAP.md has the longest chain of crates below the program, by docs/times.csv, and that has each crate."""
+    """docs/MAP.md has how long the gate takes, and the longest chain of crates below the program, by docs/times.csv,
+    and that has each crate."""
     with open(TOP / "docs" / "times.csv", encoding="utf-8", newline="") as it:
         seconds = {row["crate"]: int(row["proofs"] or 0) for row in csv.DictReader(it)}
     missing = set(listed()) - set(seconds)
@@ -250,8 +252,10 @@ def check_times(faults: Faults) -> None:
     told = " > ".join(f"{it} {seconds.get(it, 0)}" for it in chain)
     told += f" {sum(seconds.get(it, 0) for it in chain)} in all"
     text = (TOP / "docs" / "MAP.md").read_text(encoding="utf-8").partition("## Times")[2]
-    shown = re.search(r"^```\n(.*?)^```", text, re.MULTILINE | re.DOTALL)
+    shown = re.search(r"^```\n(cpa_.*?)^```", text, re.MULTILINE | re.DOTALL)
     faults.hold(shown is not None and " ".join(shown[1].split()) == told, f"docs/MAP.md: the longest chain is {told}")
+    planned = plan_gate.told((1, 2, 4))
+    faults.hold(f"```\n{planned}\n```\n" in text, f"docs/MAP.md: by python3 -m bench.plan_gate it is\n{planned}")
 
 
 def main() -> None:
