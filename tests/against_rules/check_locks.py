@@ -281,7 +281,9 @@ def check_orders(folder, number, system, on, tally):
     draw, tasks = random.Random(f"orders {number} {on}"), [it for it in system["task"] if it["on"] == on]
     deadlines = {it["name"]: draw.randint(it["worst"], 40) for it in tasks if draw.random() < 0.8}
     paths = [{"name": f"p{name}", "tasks": [name], "deadline": most} for name, most in deadlines.items()]
-    wrote, status = outcome(built("cpa_cli"), "assign", written(folder, "orders.toml", file_of(system | {"path": paths})), on)
+    wrote, status = outcome(
+        built("cpa_cli"), "assign", written(folder, "orders.toml", file_of(system | {"path": paths})), on
+    )
     what, names = f"system {number}: assign {on} with {deadlines}", {it["name"] for it in system["task"]}
     if any(names.intersection(it["after"]) for it in tasks):
         hold((wrote, status) == ("assign refused 3\n", 18), f"{what}: {wrote}", "orders")

@@ -196,9 +196,7 @@ def install(prefix: Path) -> int:
 
 def tell_written(prefix: Path, count: int, lacking: str) -> None:
     """Says what was written, and what whoever calls it needs."""
-    say(
-        f"{count} files are written below {prefix}: bin/lokwurmi, the program and tools in {COPY}, {MAN}, {COMPLETION}"
-    )
+    say(f"{count} files are written below {prefix}: bin/lokwurmi, the program and tools in {COPY}, {MAN}, {COMPLETION}")
     if lacking:
         say(f"the library isn't among them: {lacking}; ./lokwurmi build-library builds it")
     else:
