@@ -442,10 +442,10 @@ def main():
     with tempfile.TemporaryDirectory() as room:
         check_random(numbers, room)
         check_random_chains(numbers[::20], room)
-        check_chain_texts(room)
-        check_chain_faults(room)
+        check_chain_texts(room, PROGRAM)
+        check_chain_faults(room, PROGRAM)
         if python:
-            check_chain_picture(python, room)
+            check_chain_picture(python, room, PROGRAM)
         check_worked()
         if python:
             check_examples(python, room)
