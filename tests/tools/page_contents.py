@@ -161,8 +161,13 @@ def check_parts(page, task, opened):
     is_whole = sum(ticks for _, _, ticks in parts) - came == int(task["Bound"]) == int(lines[-1][2])
     is_each = all(count * each == ticks for count, each, ticks in parts)
     page.hold(is_each and is_whole, f"the parts of {name}: {lines}")
-    is_told = lines[0][0] == name and "in the busy window" in text and "started by" in text
-    page.hold(is_told, f"what is told of {name}: {text}")
+    kinds = read_system(example(page.name, ".toml")).resources
+    if kinds[task["Resource"]].kind == "fifo":
+        # all jobs of a queue count alike, whatever their tasks
+        is_told = name in [line[0] for line in lines] and "in no order of time" in text
+    else:
+        is_told = lines[0][0] == name and "in the busy window" in text
+    page.hold(is_told and "started by" in text, f"what is told of {name}: {text}")
     wide, widths, mark = page.run(STACK % opened)
     per = wide / (int(task["Bound"]) + came)
     is_long = all(abs(width - per * ticks) < 2 for width, (_, _, ticks) in zip(widths, parts))
