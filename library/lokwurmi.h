@@ -11,7 +11,7 @@
  *
  * Texts that are given. A call writes its text to out, as far as out_len goes, and puts the length of the whole text into *used. Where that is
  * more than out_len, the text is cut off at out_len: call again with more room. The report of a system of the greatest size has less
- * than 128 KiB. No zero is written at the end.
+ * than 2 MiB, or 128 KiB where its file has format 1 or 2. No zero is written at the end.
  *
  * Threads. No function starts a thread, takes a lock or reads a file, and none keeps anything from one call to the next but in a handle. So any
  * number of threads may call at the same time, each with an out, a used and handles of its own. Don't call from a signal handler, nor in a process
