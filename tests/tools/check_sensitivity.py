@@ -363,7 +363,28 @@ def check_calls(python, room):
     )
 
 
-def check_refused(python):
+# a queue, whose bounds use no clock: the periods of its sources stay all the same
+CLOCKED = """format = 4
+resource = [{ name = "q", kind = "fifo" }]
+source = [{ name = "s", period = 10, clock = "c" }, { name = "r", period = 10, clock = "c", offset = 5 }]
+task = [
+  { name = "a", on = "q", after = "s", best = 1, worst = 2 },
+  { name = "b", on = "q", after = "r", best = 1, worst = 1 },
+]
+path = [{ name = "p", tasks = ["a"], deadline = 1200 }]
+"""
+
+
+def check_shares(python, clocked):
+    """No share is told above what it is: 1197 of 1200 ticks are 99.75 percent. That periods on clocks stay is told."""
+    done = called(python, clocked, "--only", "deadline")
+    hold(re.search(r"^deadline of p +1200 +3 +-99\.7 %", done.stdout, re.M), done.stdout, "calls")
+    for words in ([], ["--json"]):
+        done = called(python, clocked, "--only", "deadline", *words)
+        hold("periods of sources on a clock aren't moved" in done.stdout, done.stdout, "calls")
+
+
+def check_refused(python, clocked):
     """What the tool doesn't take, and where nothing may move."""
     sae = os.path.join(TOP, "examples", "sae_can.toml")
     for words, status, said in (
@@ -388,6 +409,10 @@ def check_refused(python):
         ([sae, "--goal", "d9=0"], 1, "a goal is PATH=DEADLINE"),
         ([sae, "--to", "picture.gif"], 1, "a picture's name ends with"),
         ([sae, "--jobs", "0"], 1, "at least 1 job"),
+        ([sae, "--only", "speed", "--only", "section"], 1, "--only section: no critical section may be longer"),
+        ([sae, "--only", "region"], 1, "--only region: no region may be longer"),
+        ([os.path.join(TOP, "examples", "two_tasks.toml"), "--only", "deadline"], 1, "no path has a deadline"),
+        ([clocked, "--only", "period"], 1, "there is no source on no clock; periods of sources on a clock aren't"),
     ):
         done = called(python, *words)
         hold(
@@ -420,8 +445,10 @@ def main():
         check_chain_calls(room)
         check_late_and_again(room)
         if python:
+            clocked = written(room, "clocked.toml", CLOCKED)
             check_calls(python, room)
-            check_refused(python)
+            check_shares(python, clocked)
+            check_refused(python, clocked)
     without = "" if python else ", without calls: matplotlib is not here"
     tell(f"{len(numbers)} systems, {held} times all held; ", without)
 

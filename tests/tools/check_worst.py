@@ -232,10 +232,10 @@ def check_progress(program):
             told,
         )
         done = call(["pycpa_first.toml", "--path", "polled", "--tries", "1000000", "--seconds", "2"], program)
-        hold(done[0] == 0 and "the clock ended the search of " in done[2], f"the clock: {done}")
+        hold(done[0] == 0 and "the time was up in " in done[2], f"the time: {done}")
 
 
-# how long a search may go on after its time, on a busy machine too: without a clock it would take hours
+# how long a search may go on after its time, on a busy machine too: by its tries alone it would take hours
 MORE_SECONDS = 60
 SECONDS = 3
 # a program that takes longer for each replay than a search may take for all of them

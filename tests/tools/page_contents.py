@@ -9,7 +9,7 @@ from fractions import Fraction
 from lokwurmi_tools.runs.jobs_in_run import jobs_in, read_schedule, read_trace
 from lokwurmi_tools.shared.system_file import read_system
 from tests.rules.runs import plain
-from tests.tools.pages import call, example, told
+from tests.tools.pages import call, example, percent, told
 
 
 def check_numbers(page, program, with_trace):
@@ -105,12 +105,12 @@ def check_loads(page):
     for row in page.table("resource-table"):
         load = sum(rate(name) * it["worst"] for name, it in tasks.items() if it["on"] == row["Resource"])
         page.hold(
-            row["Utilisation"] == f"{float(load) * 100:.1f} %",
+            row["Utilisation"] == percent(load),
             f"the utilisation of {row['Resource']}: {row['Utilisation']}, and not {float(load):.4f}",
         )
     for row in page.table("task-table"):
         page.hold(
-            row["Utilisation"] == f"{float(rate(row['Task']) * tasks[row['Task']]['worst']) * 100:.1f} %",
+            row["Utilisation"] == percent(rate(row["Task"]) * tasks[row["Task"]]["worst"]),
             f"the utilisation of {row['Task']}: {row['Utilisation']}",
         )
 

@@ -10,7 +10,7 @@ except ImportError:
     sys.exit("check_page: the package matplotlib isn't here: apt-get install python3-matplotlib, for /usr/bin/python3")
 
 from tests.support.calls import written
-from tests.tools.pages import schedule_of
+from tests.tools.pages import percent, schedule_of
 
 WIDTHS = (375, 500, 1024, 1366, 1920)
 # names, numbers and paths that take much room, a frame of 29 bits, slots, a region
@@ -181,8 +181,7 @@ def check_wide(room, page_of):
     page.hold([row[2] for row in rows] == TURNS_TOLD, f"the turns of its tasks: {[row[2] for row in rows]}")
     loads = {row[0]: row[9].split("\n")[1:] for row in rows}
     page.hold(
-        loads
-        == {row[0]: [f"{float(OF_SLOT[row[0]]) * 100:.1f} % of slot"] if row[0] in OF_SLOT else [] for row in rows},
+        loads == {row[0]: [f"{percent(OF_SLOT[row[0]])} of slot"] if row[0] in OF_SLOT else [] for row in rows},
         f"what is used of slots: {loads}",
     )
     page.hold("the tightest path" in page.text(".figures"), "the tightest path")

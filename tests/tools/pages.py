@@ -27,6 +27,12 @@ def told(text):
     return [it for it in lines if it[0] == "task"], [it for it in lines if it[0] == "path"]
 
 
+def percent(share):
+    """A share in percent as a page tells it: rounded up to tenths."""
+    tenths = -(-share * 1000 // 1)
+    return f"{tenths // 10}.{tenths % 10} %"
+
+
 def schedule_of(file, trace):
     """The schedule of a run, by the step rules followed tick by tick."""
     return "".join(f"{task},{start},{end}\n" for task, start, end in replayed(file, trace).segments)

@@ -196,9 +196,11 @@ def unit_of(nanoseconds: Fraction) -> str:
 
 
 def text_of(nanoseconds: Fraction, unit: str | None = None) -> str:
-    """A time in a unit, or in the largest one in which it is at least 1, with 12 digits at most."""
+    """A time in a unit, or in the largest one in which it is at least 1, with all its digits; of one without an end, as
+    a third, the first 12."""
     unit = unit or unit_of(nanoseconds)
-    return f"{float(nanoseconds / UNITS[unit]):.12g}{unit}"
+    number = nanoseconds / UNITS[unit]
+    return f"{decimal_text(number) or f'{float(number):.12g}'}{unit}"
 
 
 def common(one: Fraction, other: Fraction) -> Fraction:

@@ -2,6 +2,7 @@
 explained.py tells."""
 import sys
 
+from lokwurmi_tools.shared.tables import percent_above
 from lokwurmi_tools.shared.times import TICKS, Scale
 from lokwurmi_tools.shared.types import Values
 
@@ -30,7 +31,7 @@ CAME, BOUND = "until it came", "bound"
 
 
 def percent(share: float) -> str:
-    return f"{share * 100:.1f} %"
+    return f"{percent_above(share)} %"
 
 
 def shown(text: str) -> str:

@@ -6,7 +6,7 @@
         --chains examples/camera_brake.chains.toml
 
 Each number of ticks becomes a time in the largest unit in which it is at least 1, or in the one that is asked for, with
-12 digits at most. All else stays as it is.
+all its digits. All else stays as it is.
 
 A bound of a chain gets a tick more for each wait that it counts, since it has to hold for times between ticks too; and
 so may its verdict be another. `chain` tells the waits. Of `chains` they follow from the system and the file of chains;

@@ -1,15 +1,15 @@
 """Tells how far each number of a system may move, one at a time, while all deadlines are met and no bound is
 `overload`.
 
-It moves the greatest execution of each task (longer), the period (shorter) and the jitter (longer) of each source, the
-greatest executions on each resource (all longer by one share, regions and sections as they are), the region of each
-task that has one (longer, up to its greatest execution), each critical section (longer, up to that or the next
-section), each offset on a clock that bounds use (later, and earlier, round the period of its source) and each deadline
-(shorter), and shows the tightest first. With --only region tasks without one have one of a tick. What is first missed,
-or without a bound, beyond that stands beside it. Each is moved alone: two that both move as far as is told may miss a
-deadline together. With --goal a path is held against another deadline than that of the file, or against one where the
-file has none. With --deadlines paths with a deadline count alone, as for `lokwurmi slack`, and a bound that is
-`overload` only where such a path goes through its task.
+It moves the greatest execution of each task (longer), the period of each source on no clock (shorter), the jitter of
+each source (longer), the greatest executions on each resource (all longer by one share, regions and sections as they
+are), the region of each task that has one (longer, up to its greatest execution), each critical section (longer, up to
+that or the next section), each offset on a clock that bounds use (later, and earlier, round the period of its source)
+and each deadline (shorter), and shows the tightest first. With --only region tasks without one have one of a tick. What
+is first missed, or without a bound, beyond that stands beside it. Each is moved alone: two that both move as far as is
+told may miss a deadline together. With --goal a path is held against another deadline than that of the file, or against
+one where the file has none. With --deadlines paths with a deadline count alone, as for `lokwurmi slack`, and a bound
+that is `overload` only where such a path goes through its task.
 
 Without --chains the deadlines are those of paths alone: a number that moves as far as is told may have an effect chain
 miss its deadline. With --chains the deadlines of that file count too, and what a chain doesn't allow stands beside the

@@ -28,6 +28,7 @@ from lokwurmi_tools.networks.option_checks import (
 )
 from lokwurmi_tools.networks.sender_clocks import ON_NO_CLOCK, SenderClocks, Start
 from lokwurmi_tools.shared.faults import Fault
+from lokwurmi_tools.shared.tables import percent_above
 from lokwurmi_tools.shared.times import UNITS, common, text_of
 
 # what a DBC file calls the signals that are in no frame
@@ -490,7 +491,7 @@ class Taker:
         share = self.utilisation(bus)
         self.report.heads.append(
             f"{bus.file}: of bus {bus.name} {len(self.taken[bus.name])} of {len(bus.frames)} frames are taken; its"
-            f" utilisation is {float(share) * 100:.1f} % at most"
+            f" utilisation is {percent_above(share)} % at most"
         )
         if share > 1:
             self.report.heads.append("  that is more than the bus can take: some bounds will be overload")

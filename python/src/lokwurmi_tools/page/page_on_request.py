@@ -10,13 +10,14 @@ from lokwurmi_tools.page.system_tables import PageSystem, told_of_path
 from lokwurmi_tools.search.chain_goals import ChainGoals
 from lokwurmi_tools.search.helpful_changes import WARNING, change_text, helps_for, less_text, regions_text
 from lokwurmi_tools.search.margin_question import KINDS, MarginQuestion
-from lokwurmi_tools.search.margin_texts import OFFSETS, REGIONS, name_of, share_text, then_of, value_of
+from lokwurmi_tools.search.margin_texts import CLOCKS, OFFSETS, REGIONS, name_of, share_text, then_of, value_of
 from lokwurmi_tools.search.margins import rows_of
 from lokwurmi_tools.search.priorities import PriorityOptions, PrioritySearch
-from lokwurmi_tools.search.priority_texts import above, chains_told
+from lokwurmi_tools.search.priority_texts import chains_told
 from lokwurmi_tools.shared.analysed import Analysed
 from lokwurmi_tools.shared.program import written_by
 from lokwurmi_tools.shared.report import reports_in
+from lokwurmi_tools.shared.tables import percent_above
 from lokwurmi_tools.shared.times import Scale
 from lokwurmi_tools.shared.types import Values
 
@@ -98,7 +99,8 @@ def margins_of(known: Analysed, scale: Scale, chains: ChainGoals | None) -> Valu
     # a deadline is stopped by its own path or chain; paths and tasks come before chains in what is told
     others = [it["is_chain"] for it in told if it["kind"] != "deadline"]
     counts = {"with_chains": chains is not None, "by_chains": sum(others), "others": len(others)}
-    return {"rows": told, "missed": now.first(), "regions": regions, "offsets": offsets} | counts
+    clocks = CLOCKS if rows and known.view.clocks else ""
+    return {"rows": told, "missed": now.first(), "regions": regions, "offsets": offsets, "clocks": clocks} | counts
 
 
 def priorities_of(known: Analysed, chains: ChainGoals | None) -> Values:
@@ -115,7 +117,7 @@ def priorities_of(known: Analysed, chains: ChainGoals | None) -> Values:
         "order": search.changed(),
         "edits": search.script(),
         "chains": chains_told(search, verdict),
-        "overloaded": [{"on": on, "load": above(share)} for on, share in search.view.overloaded().items()],
+        "overloaded": [{"on": on, "load": percent_above(share)} for on, share in search.view.overloaded().items()],
     }
 
 

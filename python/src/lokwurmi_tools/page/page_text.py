@@ -12,13 +12,14 @@ from lokwurmi_tools.page.clocks_on_page import clocks_of
 from lokwurmi_tools.page.page_on_request import changes_of, helps_of, margins_of, priorities_of
 from lokwurmi_tools.page.page_options import PageOptions
 from lokwurmi_tools.page.run_pictures import picture_of_graph, seen_run, told_of_run
-from lokwurmi_tools.page.system_tables import PageSystem, percent
+from lokwurmi_tools.page.system_tables import PageSystem
 from lokwurmi_tools.reports.judging import Given, room
 from lokwurmi_tools.search.chain_goals import ChainGoals
 from lokwurmi_tools.shared.analysed import analysed
 from lokwurmi_tools.shared.faults import Fault
 from lokwurmi_tools.shared.packages import need
 from lokwurmi_tools.shared.system_file import noticed_in
+from lokwurmi_tools.shared.tables import percent_above
 from lokwurmi_tools.shared.times import Scale, text_of
 from lokwurmi_tools.shared.types import Values
 from lokwurmi_tools.shared.written_entries import put
@@ -52,7 +53,7 @@ def room_of(scale: Scale) -> "jinja2.Environment":
         lstrip_blocks=True,
         undefined=jinja2.StrictUndefined,
     )
-    room.filters["percent"] = percent
+    room.filters["percent"] = percent_above
     room.filters["breaking"] = breaking
     room.filters["time"] = scale.text
     room.filters["moment"] = scale.text if scale.tick else "tick {}".format

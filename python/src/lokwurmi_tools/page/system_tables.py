@@ -20,6 +20,7 @@ from lokwurmi_tools.bounds.bound_texts import (
 from lokwurmi_tools.bounds.explained import Explained
 from lokwurmi_tools.pictures.colours import hues, hues_of_sources, letters_on, shades
 from lokwurmi_tools.shared.analysed import Analysed
+from lokwurmi_tools.shared.tables import percent_above
 from lokwurmi_tools.shared.times import Scale
 from lokwurmi_tools.shared.types import Values
 
@@ -27,10 +28,6 @@ from lokwurmi_tools.shared.types import Values
 MOST_LOOKS = 5_000_000
 # how many letters fit into a bar of a path
 LETTERS = 70
-
-
-def percent(share: Fraction | float) -> str:
-    return f"{float(share) * 100:.1f}"
 
 
 def label(name: str, bound: str, share: Fraction) -> str:
@@ -61,11 +58,11 @@ class PageSystem:
                     "tasks": len(own),
                     "limit": resource.limit,
                     "overload": sum(self.report.tasks[it].overload for it in own),
-                    "load": percent(share),
+                    "load": percent_above(share),
                     "value": float(share),
                     "parts": self.resource_parts(name),
                     "over": share > 1,
-                    "full": percent(1 / max(share, Fraction(1))),
+                    "full": percent_above(1 / max(share, Fraction(1))),
                 }
             )
         return rows
@@ -78,7 +75,9 @@ class PageSystem:
                 by_source[source] = by_source.get(source, Fraction(0)) + share
         whole = max(self.view.utilisation(name), Fraction(1))
         order = sorted(by_source.items(), key=lambda it: -it[1])
-        parts = ((source, {"share": percent(share), "width": percent(share / whole)}) for source, share in order)
+        parts = (
+            (source, {"share": percent_above(share), "width": percent_above(share / whole)}) for source, share in order
+        )
         return [{"name": source, **shares, "hue": self.hue_of_source[source]} for source, shares in parts]
 
     def tightest(self, name: str, seen: int | None) -> Values | None:
@@ -94,9 +93,9 @@ class PageSystem:
             "path": path,
             "deadline": deadline,
             "value": None if share is None else float(share),
-            "share": None if share is None else percent(share),
-            "width": percent(min(share, Fraction(1))) if share is not None else "100",
-            "seen_at": percent(min(Fraction(seen, deadline), Fraction(1))) if seen is not None else None,
+            "share": None if share is None else percent_above(share),
+            "width": percent_above(min(share, Fraction(1))) if share is not None else "100",
+            "seen_at": percent_above(min(Fraction(seen, deadline), Fraction(1))) if seen is not None else None,
         }
 
     def rank(self, name: str) -> Values:
@@ -144,7 +143,7 @@ class PageSystem:
             "paths": self.view.paths_over(name),
             "least": found.best,
             "greatest": task.worst,
-            "load": percent(share),
+            "load": percent_above(share),
             "value": float(share),
             "worst": found.worst,
             "seen": seen,
@@ -205,7 +204,9 @@ class PageSystem:
             share = Fraction(bound or 0) / scale
             text = label(task, self.scale.text(bound or 0), share)
             look = {"label": text, "hue": shade, "ink": letters_on(shade)}
-            parts.append({"name": task, "on": self.view.tasks[task].on, "bound": bound, "width": percent(share)} | look)
+            parts.append(
+                {"name": task, "on": self.view.tasks[task].on, "bound": bound, "width": percent_above(share)} | look
+            )
         return parts
 
     def is_told(self, part: Values) -> bool:
@@ -227,9 +228,9 @@ class PageSystem:
                     "parts": parts,
                     "told": all(map(self.is_told, parts)),
                     "room": found.slack,
-                    "at": None if found.deadline is None else percent(Fraction(found.deadline) / scale),
+                    "at": None if found.deadline is None else percent_above(Fraction(found.deadline) / scale),
                     "seen": seen,
-                    "seen_at": None if at is None else percent(Fraction(at) / scale),
+                    "seen_at": None if at is None else percent_above(Fraction(at) / scale),
                 }
             )
         return rows

@@ -173,6 +173,11 @@ class MarginQuestion:
         found += [self.number_of_section(name) for name in self.sections]
         return [it for it in found if it.kind in kinds]
 
+    def kinds(self, kinds: tuple[str, ...]) -> set[str]:
+        """Of some kinds those of which there is a number."""
+        found = {it.kind for it in self.numbers(kinds)}
+        return found | {"deadline"} if self.limits() or self.chains and self.chains.now else found
+
     def offsets(self) -> list[Number]:
         """The offsets on clocks that bounds use, each to both sides and round its period."""
         found = []

@@ -15,7 +15,7 @@ from lokwurmi_tools.shared.analysed import analysed
 from lokwurmi_tools.shared.faults import Fault
 from lokwurmi_tools.shared.packages import need
 from lokwurmi_tools.shared.system_file import clock_words_of
-from lokwurmi_tools.shared.tables import columns
+from lokwurmi_tools.shared.tables import columns, percent_below
 from lokwurmi_tools.shared.times import TICKS, Scale
 from lokwurmi_tools.shared.types import Values
 
@@ -28,6 +28,20 @@ PERIODS = (
 )
 # what has to be said of periods where there are clocks
 CLOCKS = "periods of sources on a clock aren't moved: with another one all that comes by the clock would lie otherwise"
+# where --only asks for a kind of which a system has no number that moves, why that is
+NONE_OF = {
+    "execution": "there is no task",
+    "period": f"there is no source on no clock; {CLOCKS}",
+    "longer-period": f"no chain waits for a source on no clock; {CLOCKS}",
+    "jitter": "there is no source",
+    "speed": "no resource has a task",
+    "region": "no region may be longer and then hold up another task: that takes a task on a preemptive or ceiling"
+    " resource without locks, below another, with a region below its greatest execution",
+    "section": "no critical section may be longer and then hold up another task",
+    "offset": "no bound depends on an offset: that takes two tasks of one preemptive, ceiling or can resource whose"
+    " sources are on one clock",
+    "deadline": "no path has a deadline: write one, as --goal PATH=DEADLINE",
+}
 # what has to be said of offsets
 OFFSETS = (
     "an offset moves round the period of its source, later and earlier: a whole period on, it lies where it was. Up to"
@@ -97,8 +111,7 @@ def share_text(row: Values) -> str:
     if not row["by"]:
         return "0 %"
     sign = "-" if row["kind"] in ("period", "deadline") or row.get("way") == "earlier" else "+"
-    share = 100 * row["share"]
-    return f"{sign}{share:.1f} %" if share < 1000 else f"{sign}{share:.0f} %"
+    return f"{sign}{percent_below(row['share'])} %"
 
 
 def then_of(row: Values) -> str:
@@ -136,6 +149,8 @@ def json_text(options: MarginOptions, question: MarginQuestion, rows: list[Value
     """All that is told, as JSON."""
     asked = {"file": options.file, "goals": options.goals, "deadlines": options.deadlines}
     asked |= {"chains_file": options.chains, "premise": PREMISE if options.chains else None}
+    if question.view.clocks:
+        asked["periods_on_clocks"] = CLOCKS
     if question.view.clocks_in_bounds:
         asked["clock_premise"] = CLOCK_PREMISE
     cost = {"calls": question.calls, "reports": question.probes, "seconds": round(seconds, 3)}
@@ -174,12 +189,12 @@ def question_of(options: MarginOptions) -> MarginQuestion:
     for name in options.goals:
         if name not in paths:
             raise Fault(f"{options.file}: there is no path {name}; it has {', '.join(paths) or 'none'}")
-    if "offset" in options.only and options.only != KINDS and not known.view.clocks_in_bounds:
-        raise Fault(
-            f"{options.file}: --only offset: no bound depends on an offset: that takes two tasks of one preemptive,"
-            " ceiling or can resource whose sources are on one clock"
-        )
-    return MarginQuestion(known, options.goals, options.deadlines, chains)
+    question = MarginQuestion(known, options.goals, options.deadlines, chains)
+    if options.only != KINDS:
+        there = question.kinds(options.only)
+        for kind in (it for it in options.only if it not in there):
+            raise Fault(f"{options.file}: --only {kind}: {NONE_OF[kind]}")
+    return question
 
 
 def tell_margins(options: MarginOptions) -> int:

@@ -4,17 +4,17 @@ import os
 import sys
 import tempfile
 from collections.abc import Iterable
+from fractions import Fraction
 
 from lokwurmi.files.documents import Document
 from lokwurmi.files.text_files import File
 from lokwurmi.results.reports import Report
 from lokwurmi.results.verdicts import CLOCK_PREMISE, CLOCK_WORDS
 from lokwurmi_tools.search.offsets import Found, OffsetOptions, OffsetSearch, told
-from lokwurmi_tools.search.priority_texts import above
 from lokwurmi_tools.shared.analysed import Analysed, analysed
 from lokwurmi_tools.shared.faults import Fault
 from lokwurmi_tools.shared.packages import need
-from lokwurmi_tools.shared.tables import columns, numbered
+from lokwurmi_tools.shared.tables import columns, numbered, percent_above
 from lokwurmi_tools.shared.types import Values
 from lokwurmi_tools.shared.written_entries import comments, put
 
@@ -134,7 +134,7 @@ def lines_of_sources(rows: list[Values]) -> list[str]:
 def share_text(search: OffsetSearch, found: Found | None) -> str:
     """The sum of bounds by some offsets, in percent of that without clocks."""
     whole = search.judge.cost(search.plain_report()).shares
-    return "none" if found is None else f"{100 * found.cost.shares / max(1, whole):.1f} %"
+    return "none" if found is None else f"{percent_above(Fraction(found.cost.shares, max(1, whole)))} %"
 
 
 def is_bounded(search: OffsetSearch, *reports: Report) -> bool:
@@ -173,7 +173,9 @@ def notes_of(search: OffsetSearch) -> list[str]:
         ways = numbered(search.ways(), "way")
         found.append(f"all {ways} to place these sources were tried: by none is less missed, or the sum less")
     for on, share in search.view.overloaded().items():
-        found.append(f"no offsets can do: the utilisation of {on} is {above(share)} %, whatever the offsets are")
+        found.append(
+            f"no offsets can do: the utilisation of {on} is {percent_above(share)} %, whatever the offsets are"
+        )
     if not is_met(search) and not search.is_whole and not search.view.overloaded():
         found.append("there may be offsets still: the search proves nothing about what it didn't try")
     return [*found, CHAINS, CLOCK_WORDS]

@@ -2,20 +2,14 @@
 import json
 import sys
 import tempfile
-from fractions import Fraction
 
 from lokwurmi.results.verdicts import CLOCK_PREMISE, PREMISE, Bound
 from lokwurmi_tools.search.chain_goals import PREMISE_WORDS, ChainGoals
 from lokwurmi_tools.search.priorities import OrderVerdict, PriorityOptions, PrioritySearch
 from lokwurmi_tools.shared.analysed import analysed
 from lokwurmi_tools.shared.system_file import clock_words_of
-from lokwurmi_tools.shared.tables import columns, numbered
+from lokwurmi_tools.shared.tables import columns, numbered, percent_above
 from lokwurmi_tools.shared.types import Values
-
-
-def above(share: Fraction) -> str:
-    """A utilisation above all of the time in percent, rounded up, so that it is seen to be above."""
-    return f"{-(-share * 1000 // 1) / 10:.1f}"
 
 
 def chains_told(search: PrioritySearch, verdict: OrderVerdict) -> list[Values]:
@@ -63,7 +57,9 @@ def lines_of(search: PrioritySearch, verdict: OrderVerdict) -> list[str]:
     if not search.changed():
         lines.append("the order is that of the file")
     for on, share in search.view.overloaded().items():
-        lines.append(f"no order can do: the utilisation of {on} is {above(share)} %, whatever the priorities are")
+        lines.append(
+            f"no order can do: the utilisation of {on} is {percent_above(share)} %, whatever the priorities are"
+        )
     lines += [f"no order can do: {it}" for it in search.silences()]
     if not verdict.holds and not search.has_orders():
         lines.append("no order can do: no two tasks of a resource have priorities that could change places")

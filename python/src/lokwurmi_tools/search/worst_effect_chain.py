@@ -17,7 +17,16 @@ from lokwurmi_tools.runs.effect_chain_in_run import Late, RunOfJobs, seen_of
 from lokwurmi_tools.runs.jobs_in_run import read_trace, schedule_in
 from lokwurmi_tools.search.trace_plans import NONE, TracePlan, Turn, rows_of
 from lokwurmi_tools.search.worst_pictures import draw_run
-from lokwurmi_tools.search.worst_search import INTERRUPTED, SEARCHED, TOO_LONG, Shown, WorstOptions, shortest
+from lokwurmi_tools.search.worst_search import (
+    INTERRUPTED,
+    MORE_TIME,
+    SEARCHED,
+    TIME_WAS_UP,
+    TOO_LONG,
+    Shown,
+    WorstOptions,
+    shortest,
+)
 from lokwurmi_tools.shared.chain_files import asked_chain, bounds_by, totals_of
 from lokwurmi_tools.shared.faults import Fault
 from lokwurmi_tools.shared.program import call, often
@@ -123,7 +132,7 @@ class ChainSearch:
     def __init__(self, options: WorstOptions, view: SystemView, tasks: list[str], folder: str):
         self.options, self.view, self.tasks, self.what, self.status = options, view, tasks, options.what, 0
         self.bound = totals_of(bounds_by(options.program, options.file, tasks))[self.what]
-        self.trace, self.ends = os.path.join(folder, "chain.csv"), 0.0
+        self.trace, self.ends, self.is_cut = os.path.join(folder, "chain.csv"), 0.0, False
         # what the script lokwurmi calls, which is called many times here
         self.program = often(options.program)
         self.draw = random.Random(f"{options.seed} {self.what} {' '.join(tasks)}")
@@ -167,7 +176,10 @@ class ChainSearch:
                     pool = sorted([*pool, found], key=lambda it: -it.late.ticks())[:KEPT]
                 seen = pool[0].late.ticks() if pool else 0
                 progress.show(f"{self.what}: seen {seen} of {of}, {tried + 1} of {self.options.tries} tries")
-                if seen == self.bound or time.monotonic() > ends:
+                if seen == self.bound:
+                    break
+                if tried + 1 < self.options.tries and time.monotonic() > ends:
+                    self.is_cut = True
                     break
         except KeyboardInterrupt:
             self.status = INTERRUPTED
@@ -193,13 +205,16 @@ def perform_chain(options: WorstOptions, folder: str) -> int:
     search = ChainSearch(options, view, tasks, folder)
     found = search.run()
     if found is None:
-        raise Fault("in no trace that was tried a chain of jobs was whole: more --tries may find one")
+        more = "--seconds" if search.is_cut else "--tries"
+        raise Fault(f"in no trace that was tried a chain of jobs was whole: more {more} may find one")
     plan, span = shortest(search, found.plan, search.span, {("chain", search.what): found.late.ticks()})
     found = search.look(plan, span) or found
     rows = rows_of(view, plan, span)
     if options.to:
         write(options.to, rows)
     print(told(search, found.late, options.to), flush=True)
+    if search.is_cut:
+        print(f"{TIME_WAS_UP}: {MORE_TIME}", file=sys.stderr)
     if options.draw:
         draw_run(options, rows, folder, chain=",".join(tasks), what=options.what, reading=options.reading)
     return search.status

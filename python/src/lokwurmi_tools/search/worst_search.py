@@ -26,11 +26,13 @@ from lokwurmi_tools.shared.progress import Progress
 from lokwurmi_tools.shared.report import run_in
 from lokwurmi_tools.shared.types import Jobs, Times
 
-# how many plans are replayed between two looks at the clock
+# how many plans are replayed between two looks at the time
 TOGETHER = 32
 # the share of the time in which is searched where a trace, or those of --keep, are made short afterwards; the seconds
 # by which a replay may go on after the time, and those that each has at least
 SEARCHED, KEEPING, GRACE, LEAST = 0.8, 0.6, 2.0, 1.0
+# what is told of a search that ended by the time, and what may help
+TIME_WAS_UP, MORE_TIME = "the time was up before all tries were made", "another call may see more (--seconds)"
 # the status of a run that would be too long, and that of a search that was interrupted
 TOO_LONG, INTERRUPTED = 16, 130
 # `task` or `path`, and its name
@@ -232,7 +234,7 @@ class WorstSearch:
         self.progress.show(f"{where}: seen {seen} of {of}, {made} of {tries} tries{left}")
 
     def is_over(self, target: Target, made: int, ends: float) -> bool:
-        """Whether a search is over: the bound is reached, it was interrupted, or the clock ended it, which is
+        """Whether a search is over: the bound is reached, it was interrupted, or the time is up, which is
         counted."""
         bound = self.bounds.get(target)
         if bound is not None and self.best.found.get(target, (0,))[0] >= bound or self.judge.interrupt.is_set():

@@ -5,6 +5,7 @@ import statistics
 import sys
 import tempfile
 from collections.abc import Iterable
+from fractions import Fraction
 
 from lokwurmi.errors import LokwurmiError
 from lokwurmi.files.traces import write
@@ -15,6 +16,8 @@ from lokwurmi_tools.search.worst_effect_chain import perform_chain
 from lokwurmi_tools.search.worst_pictures import draw_run
 from lokwurmi_tools.search.worst_search import (
     INTERRUPTED,
+    MORE_TIME,
+    TIME_WAS_UP,
     Best,
     Judge,
     Shown,
@@ -112,13 +115,11 @@ def tell(search: WorstSearch, told: list[Target]) -> Shown:
 
 def tell_sum(rows: Shown, bounds: dict[Target, int | None]) -> None:
     """What the table comes to."""
-    ratios = [seen / bound for target, seen in rows.items() if (bound := bounds[target])]
+    ratios = [Fraction(seen, bound) for target, seen in rows.items() if (bound := bounds[target])]
     if ratios:
         reached = sum(ratio == 1 for ratio in ratios)
-        say(
-            f"middle ratio {statistics.median(ratios):.4f}, least {min(ratios):.4f},"
-            f" {reached} of {len(ratios)} bounds reached"
-        )
+        middle, least = (ratio_text(*it.as_integer_ratio()) for it in (statistics.median(ratios), min(ratios)))
+        say(f"middle ratio {middle}, least {least}, {reached} of {len(ratios)} bounds reached")
 
 
 def keep(options: WorstOptions, judge: Judge, best: Best, rows: Shown) -> None:
@@ -181,10 +182,7 @@ def perform(options: WorstOptions, folder: str) -> int:
         )
         return INTERRUPTED
     if search.cut:
-        print(
-            f"the clock ended the search of {search.cut} of {len(targets)}: another call may see more (--seconds)",
-            file=sys.stderr,
-        )
+        print(f"{TIME_WAS_UP} in the search of {search.cut} of {len(targets)}: {MORE_TIME}", file=sys.stderr)
     return 0
 
 
