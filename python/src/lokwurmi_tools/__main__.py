@@ -5,10 +5,11 @@ import sys
 from typing import NoReturn
 
 from lokwurmi.errors import LokwurmiError
-from lokwurmi_tools.commands.catalogue import COMMANDS, command_of
-from lokwurmi_tools.shared.faults import Told
+from lokwurmi_tools.commands.catalogue import COMMANDS, ToolCommand, command_of
+from lokwurmi_tools.shared.faults import Fault, Told
 from lokwurmi_tools.shared.packages import Missing, go_on
-from lokwurmi_tools.shared.pipes import Patient
+from lokwurmi_tools.shared.pipes import Output, Patient
+from lokwurmi_tools.shared.streams import open_streams
 
 
 def commands_text() -> str:
@@ -40,6 +41,18 @@ def end_by(number: int) -> NoReturn:
     raise SystemExit(128 + number)
 
 
+def answered(command: ToolCommand, words: list[str]) -> int:
+    """The status of a command whose output is out."""
+    try:
+        status = command.main()(words) or 0
+    except SystemExit:
+        # of --help, or of a word that isn't known
+        sys.stdout.flush()
+        raise
+    sys.stdout.flush()
+    return status
+
+
 def run(words: list[str]) -> int:
     """Runs a command, and gives its status; what it has written is out."""
     found = command_of(words)
@@ -49,18 +62,12 @@ def run(words: list[str]) -> int:
         return status
     command, rest = found
     try:
-        status = command.main()(rest) or 0
-        sys.stdout.flush()
-        return status
+        return answered(command, rest)
     except LokwurmiError as fault:
         if not isinstance(fault, Told):
             print(f"lokwurmi {command.name}: {fault}", file=sys.stderr)
         status = getattr(fault, "status", 1)
         return status if status > 0 else 1
-    except SystemExit:
-        # of --help, or of a word that isn't known
-        sys.stdout.flush()
-        raise
     except Missing as fault:
         return go_on(command.name, fault, words)
     except KeyboardInterrupt:
@@ -71,7 +78,9 @@ def run(words: list[str]) -> int:
 def perform(words: list[str]) -> int:
     """The same, and help; where who reads has enough of it this ends as a program does then. What is told on standard
     error has no say in that before the end, so that a file is whole by then."""
+    open_streams()
     sys.stderr = told = Patient(sys.stderr)  # type: ignore[assignment]
+    sys.stdout = written = Output(sys.stdout)  # type: ignore[assignment]
     try:
         if not is_asked_for_help(words):
             status = run(words)
@@ -82,8 +91,11 @@ def perform(words: list[str]) -> int:
             status = 0
     except BrokenPipeError:
         end_by(signal.SIGPIPE)
+    except Fault as fault:
+        print(f"lokwurmi: {fault}", file=sys.stderr)
+        status = fault.status
     finally:
-        sys.stderr = told.stream
+        sys.stdout, sys.stderr = written.stream, told.stream
     if told.is_left:
         end_by(signal.SIGPIPE)
     return status

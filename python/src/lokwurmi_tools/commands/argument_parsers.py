@@ -1,8 +1,9 @@
 """Readers of the words behind a command: argparse stands in this room alone."""
 import argparse
 import itertools
+import os
 import textwrap
-from collections.abc import Callable
+from collections.abc import Callable, Sequence
 from dataclasses import fields
 from typing import Any, TypeVar
 
@@ -13,6 +14,9 @@ from lokwurmi_tools.shared.program import LAUNCHER
 
 # how many letters a line of prose has at most, and the status of words that the program doesn't accept
 WIDTH, NO_WORDS = 120, 10
+# the words that name a file to write, and what those are called that name one to read
+WRITTEN = ("--to", "--output", "--script", "--draw")
+READ = ("A", "B", "CHAINS", "DATABASE", "FILE", "GRID", "LOG", "REPORT", "SCHEDULE", "SCRIPT", "SYSTEM", "TRACE")
 # the typed options of a room
 Options = TypeVar("Options")
 
@@ -31,12 +35,62 @@ class HelpForm(argparse.RawDescriptionHelpFormatter):
         return "\n".join(indent + it for it in lines)
 
 
+class StoredOnce(argparse._StoreAction):
+    """A word with a value, which stands once: of two the first would be passed over."""
+
+    def __call__(self, parser: Any, namespace: Any, values: Any, option_string: str | None = None) -> None:
+        if option_string is not None and self.dest in parser.seen:
+            parser.error(f"{option_string} stands twice: write it once")
+        parser.seen.add(self.dest)
+        super().__call__(parser, namespace, values, option_string)
+
+
+class WordReader(argparse.ArgumentParser):
+    """A reader of words that refuses an option that stands twice, and a file to write that is read, too."""
+
+    def __init__(self, *words: Any, **more: Any):
+        super().__init__(*words, **more)
+        self.seen: set[str] = set()
+        for name in (None, "store"):
+            self.register("action", name, StoredOnce)
+
+    def parse_known_args(self, args: Any = None, namespace: Any = None) -> Any:
+        self.seen.clear()
+        found, rest = super().parse_known_args(args, namespace)
+        self.check_files(found)
+        return found, rest
+
+    def files_of(self, words: argparse.Namespace, is_written: bool) -> list[tuple[str, str]]:
+        """The files to write, or those to read, each with the word that names it."""
+        found = []
+        for it in self._actions:
+            option = next((name for name in it.option_strings if name in WRITTEN), None)
+            if (option is not None) is is_written and (is_written or it.metavar in READ):
+                value = getattr(words, it.dest, None)
+                several: Sequence[Any] = value if isinstance(value, list) else [value]
+                found += [(option or str(it.metavar), one) for one in several if isinstance(one, str)]
+        return found
+
+    def check_files(self, words: argparse.Namespace) -> None:
+        """Refuses to write a file over one that is read, or one over another."""
+        written = self.files_of(words, True)
+        for place, (option, file) in enumerate(written):
+            for other, one in self.files_of(words, False) + written[:place]:
+                if is_same(file, one):
+                    raise Fault(f"{option} {file}: {other} names the same file: write another one")
+
+
+def is_same(one: str, other: str) -> bool:
+    """Whether two names are those of one file, that is there or not; devices and pipes may be written and read."""
+    if os.path.isfile(one) and os.path.isfile(other):
+        return os.path.samefile(one, other)
+    return not os.path.exists(one) and os.path.realpath(one) == os.path.realpath(other)
+
+
 def reader_of(name: str, description: str | None, examples: str = "") -> argparse.ArgumentParser:
     """A reader of a command's words, whose help has an example that runs."""
     epilog = examples or f"example:\n  ./lokwurmi {named(name).example}"
-    return argparse.ArgumentParser(
-        prog=f"lokwurmi {name}", description=description, epilog=epilog, formatter_class=HelpForm
-    )
+    return WordReader(prog=f"lokwurmi {name}", description=description, epilog=epilog, formatter_class=HelpForm)
 
 
 def options_of(kind: type[Options], words: argparse.Namespace, **more: Any) -> Options:

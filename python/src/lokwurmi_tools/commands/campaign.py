@@ -25,7 +25,7 @@ from typing import Any
 from lokwurmi.model.limits import MOST_SEED, MOST_TRACES
 from lokwurmi_tools.campaigns.campaign_options import CampaignOptions, HammerOptions, VariantOptions
 from lokwurmi_tools.campaigns.campaigning import run_campaign
-from lokwurmi_tools.commands.argument_parsers import HelpForm, options_of, reader_of
+from lokwurmi_tools.commands.argument_parsers import HelpForm, WordReader, options_of, reader_of
 from lokwurmi_tools.commands.catalogue import named
 from lokwurmi_tools.shared.packages import need
 from lokwurmi_tools.shared.program import BINARY
@@ -66,7 +66,7 @@ def within(least: int, most: int) -> Callable[[str], int]:
 
 def common_words() -> argparse.ArgumentParser:
     """The words of each campaign."""
-    common = argparse.ArgumentParser(add_help=False)
+    common = WordReader(add_help=False)
     where = common.add_mutually_exclusive_group()
     says = "a Dask scheduler, as tcp://host:8786; without it, this machine's processors"
     where.add_argument("--scheduler", metavar="ADDRESS", help=says)

@@ -15,8 +15,17 @@ def start() -> int:
     packages = os.path.dirname(os.path.dirname(os.path.dirname(os.path.abspath(__file__))))
     sys.path.insert(0, packages)
     from lokwurmi_tools.launcher.steps import main
+    from lokwurmi_tools.shared.streams import open_streams
 
-    return main(sys.argv[1:])
+    open_streams()
+    status = main(sys.argv[1:])
+    try:
+        sys.stdout.flush()
+    except OSError:
+        # nothing is left for the end of the process to write
+        os.dup2(os.open(os.devnull, os.O_WRONLY), 1)
+        return 20
+    return status
 
 
 if __name__ == "__main__":

@@ -28,6 +28,8 @@ def draw_report(options: ChartOptions) -> None:
     report = read_report(options.report)
     picture = options.to or os.path.splitext(options.report)[0] + ".svg"
     check_name(picture)
+    if picture == options.report:
+        raise Fault(f"{options.report}: the picture would have the name of the report: name it by --to")
     if not report.paths and (options.paths or not report.tasks):
         raise Fault(f"{options.report}: there is nothing to draw")
     prepare()

@@ -25,7 +25,7 @@ from lokwurmi_tools.shared.times import Scale
 
 # statuses of the program: where it doesn't take words, where an output can't be written, and out of memory; and that of
 # the launcher where there is no answer
-NO_WORDS, NOT_WRITTEN, NO_MEMORY, FAILED = 10, 20, 30, 70
+NO_WORDS, NO_MEMORY, FAILED = 10, 30, 70
 # a byte more than a system of any format or a file of chains may have: what is cut off there is refused as too long
 ENOUGH = max(LIMITS[NEWEST].file_bytes, *MOST_BYTES.values()) + 1
 
@@ -134,18 +134,9 @@ def notices_on(file: Given, chains: Given | None) -> list[str]:
 
 
 def put(text: str) -> None:
-    """Writes what a tool answers; where that can't be written, the tool ends with the status of the program for
-    that."""
-    try:
-        sys.stdout.write(text)
-        sys.stdout.flush()
-    except BrokenPipeError:
-        # who reads has enough of it
-        raise
-    except OSError as fault:
-        # nothing is left for the end of the process to write
-        os.dup2(os.open(os.devnull, os.O_WRONLY), sys.stdout.fileno())
-        raise Fault(f"the output can't be written: {fault.strerror}", NOT_WRITTEN)
+    """Writes what a tool answers."""
+    sys.stdout.write(text)
+    sys.stdout.flush()
 
 
 class TickTexts:

@@ -121,6 +121,8 @@ def show(options: TimeOptions, rows: Iterable[str]) -> None:
 
 def show_in_times(options: TimeOptions) -> None:
     """Prints a report with times in place of ticks."""
+    if options.report is None and sys.stdin is None:
+        raise Fault("the standard input is closed: name a REPORT")
     try:
         with open(options.report, encoding="ascii") if options.report else sys.stdin as it:
             show(options, it)
@@ -128,6 +130,6 @@ def show_in_times(options: TimeOptions) -> None:
         # who reads has enough of it: no fault of the file
         raise
     except OSError as fault:
-        raise Fault(f"{options.report}: can't be read: {fault.strerror}")
+        raise Fault(f"{options.report or 'the standard input'}: can't be read: {fault.strerror}")
     except UnicodeDecodeError:
         raise Fault(f"{options.report or 'the standard input'}: it isn't ASCII, and so no report")

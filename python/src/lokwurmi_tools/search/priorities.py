@@ -25,6 +25,7 @@ from lokwurmi_tools.shared.report import bounds_in, reports_in
 from lokwurmi_tools.shared.system_text import toml_of
 from lokwurmi_tools.shared.tables import numbered
 from lokwurmi_tools.shared.types import Values
+from lokwurmi_tools.shared.written_entries import put
 
 # how much parts of deadlines are moved in a round, one after the other, how many exchanges are tried at a time, and how
 # many looks at windows a round may take
@@ -90,8 +91,7 @@ def cost_of(found: tuple[Any, OrderVerdict, str]) -> tuple[int, float, float]:
 
 
 def write(file: str, text: str) -> str:
-    with open(file, "w", encoding="ascii") as it:
-        it.write(text)
+    put(text, file)
     return file
 
 

@@ -125,7 +125,10 @@ def tell_sum(rows: Shown, bounds: dict[Target, int | None]) -> None:
 def keep(options: WorstOptions, judge: Judge, best: Best, rows: Shown) -> None:
     """Writes the traces that are asked for, and tells which jobs are late in them."""
     if options.keep:
-        os.makedirs(options.keep, exist_ok=True)
+        try:
+            os.makedirs(options.keep, exist_ok=True)
+        except OSError as fault:
+            raise Fault(f"--keep {options.keep}: no folder can be made there: {fault.strerror}")
         name = os.path.splitext(os.path.basename(options.file))[0]
         for number, (trace, shown) in enumerate(cover(judge, best, list(rows)), 1):
             to = os.path.join(options.keep, f"{name}.worst{number}.csv")

@@ -1,5 +1,41 @@
-"""A standard error whose reader may have enough: what a command has to do it does whole, and ends as by the signal."""
+"""A standard error whose reader may have enough: what a command has to do it does whole, and ends as by the signal. And
+a standard output that may not be written: then a command ends by the status of the program for that."""
+import os
 from typing import Any, TextIO
+
+from lokwurmi.model.statuses import Status
+from lokwurmi_tools.shared.faults import Fault
+
+
+class Output:
+    """A stream of text that ends the command where it can't be written; a reader that has enough is no such fault."""
+
+    def __init__(self, stream: TextIO):
+        self.stream = stream
+
+    def write(self, text: str) -> int:
+        try:
+            return self.stream.write(text)
+        except BrokenPipeError:
+            raise
+        except OSError as fault:
+            raise self.fault(fault) from fault
+
+    def flush(self) -> None:
+        try:
+            self.stream.flush()
+        except BrokenPipeError:
+            raise
+        except OSError as fault:
+            raise self.fault(fault) from fault
+
+    def fault(self, fault: OSError) -> Fault:
+        """What ends the command; nothing is left for the end of the process to write."""
+        os.dup2(os.open(os.devnull, os.O_WRONLY), self.stream.fileno())
+        return Fault(f"the output can't be written: {fault.strerror}", Status.SINK_FAILED)
+
+    def __getattr__(self, name: str) -> Any:
+        return getattr(self.stream, name)
 
 
 class Patient:
