@@ -142,6 +142,17 @@ def check_log_words(room):
     hold_refused("import log", cases)
 
 
+# times as of a recorder, in seconds since 1970
+EPOCH = "(1764300000.000001) can0 010#00\n(1764300000.010002) can0 010#00\n"
+
+
+def check_names(room):
+    """A name with a line break makes no line of its own, and ticks as long as the times are fine are taken."""
+    done = called("import log", written(room, "a\nb.log", EPOCH), "--tick", "1us")
+    hold(done.returncode == 0 and done.stdout.startswith("# The frames of ") and "a b.log" in done.stdout, done.stdout)
+    hold(all(it[:1] in "# ]s" for it in done.stdout.splitlines()), done.stdout)
+
+
 def check_refused_logs(room):
     """What is refused of logs."""
     cases = (
@@ -153,6 +164,10 @@ def check_refused_logs(room):
         ("a line of the log is broken", [written(room, "huge.log", "(1.5) can0 010#00\n(1e300) can0 010#00\n")]),
         ("a line of the log is broken", [written(room, "nan.log", "(1.5) can0 010#00\n(nan) can0 010#00\n")]),
         ("times are relative to the line before", [written(room, "relative.asc", RELATIVE)]),
+        # no identifier of 11 bits
+        ("line 1: `(1.5) can0 FFF#00`", [written(room, "wide.log", "(1.5) can0 FFF#00\n")]),
+        # a float of this size has steps of 2**-22 s, which are 238 ns
+        ("its times are read to 238 ns", [written(room, "epoch.log", EPOCH), "--tick", "100ns"]),
     )
     hold_refused("import log", cases)
 
@@ -244,6 +259,7 @@ if __name__ == "__main__":
         check_kinds,
         check_log_words,
         check_refused_logs,
+        check_names,
         check_whole,
         check_can_utils,
     )

@@ -31,6 +31,7 @@ from lokwurmi_tools.shared.faults import Fault
 from lokwurmi_tools.shared.program import written_by
 from lokwurmi_tools.shared.progress import Progress
 from lokwurmi_tools.shared.report import bounds_in, read_report, reports_in
+from lokwurmi_tools.shared.written_entries import comment
 from lokwurmi_tools.shared.system_file import read_system
 
 # the first format with clocks
@@ -188,10 +189,8 @@ def made(options: LogOptions, log: Log, names: FrameNames) -> None:
     """Prints sources for what the log has."""
     keys = [(channel, key) for channel, frames in sorted(log.channels.items()) for key in sorted_keys(frames)]
     clocks = propose_clocks(options, log, names, keys) if options.clocks else FoundClocks()
-    print(
-        f"# The frames of {options.log.encode('ascii', 'backslashreplace').decode()} as they were received. A tick is"
-        f" {float(options.tick):.12g} ns; the log has {log.last} of them."
-    )
+    tick = f"A tick is {float(options.tick):.12g} ns; the log has {log.last} of them."
+    print(comment(f"The frames of {options.log} as they were received. {tick}"))
     print("\n".join([*head_lines(clocks, options.drift), f"format = {WITH_CLOCKS}", ""]) * options.clocks, end="")
     print("source = [")
     progress = Progress("lokwurmi import log")

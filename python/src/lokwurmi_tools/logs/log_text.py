@@ -8,9 +8,9 @@ from typing import Any
 
 from lokwurmi_tools.shared.faults import Fault
 
-# a frame as `candump -l` writes it: a time, a channel, an identifier of 3 or 8 digits, and data
+# a frame as `candump -l` writes it: a time, a channel, an identifier of 3 digits up to 7FF or of 8, and data
 _CANDUMP = re.compile(
-    r"\(\d+\.(\d+)\) \S+ ([0-9A-F]{3}|[01][0-9A-F]{7}|2[0-9A-F]{7})#"
+    r"\(\d+\.(\d+)\) \S+ ([0-7][0-9A-F]{2}|[01][0-9A-F]{7}|2[0-9A-F]{7})#"
     r"(?:R[0-8]?|(?:[0-9A-F]{2}){0,8}|#[0-9A-F](?:[0-9A-F]{2}){0,64})(?: [RT])?",
     re.I,
 )

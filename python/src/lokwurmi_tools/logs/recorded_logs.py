@@ -4,6 +4,7 @@ The period is that of the narrowest band: a mean is as far off as its first and 
 of the period, and the jitter holds for all of the log.
 """
 import heapq
+import math
 from array import array
 from collections.abc import Callable, Iterable, Iterator, Sequence
 from dataclasses import dataclass, field
@@ -121,6 +122,12 @@ class LogBuilder:
             raise Fault(
                 f"{self.file}: a frame has the time {message.timestamp} s, where the first has {self.begins} s: a line"
                 " of the log is broken, or the tick is too short"
+            )
+        # a time is off by up to half of this, and so is the one that is taken from it; a half tick would be rounded
+        if (rough := math.ulp(message.timestamp)) * self.per_second >= 0.5:
+            raise Fault(
+                f"{self.file}: near {message.timestamp:.6f} s its times are read to {rough * UNITS['s']:.0f} ns, which"
+                " is too rough for such a tick: take a longer --tick, as 1us"
             )
         return round(after)
 
