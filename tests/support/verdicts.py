@@ -73,7 +73,8 @@ class Tools:
         return written(self.folder, name, text)
 
     def call(self, name, *words, given=None):
-        words = [*tool(name), "--program", self.program, *words]
+        named = [] if "--program" in words else ["--program", self.program]
+        words = [*tool(name), *named, *words]
         environment = {key: it for key, it in os.environ.items() if key != "LOKWURMI_QUIET"}
         done = subprocess.run(words, input=given, capture_output=True, text=True, check=False, env=environment)
         hold("Traceback" not in done.stderr, f"{words}: {done.stderr}")

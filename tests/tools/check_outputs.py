@@ -52,6 +52,15 @@ FOLDER = (
     "worst {0} b --to {1} --tries 2",
     "worst {0} --all --keep {0} --tries 2",
 )
+# options that concern nothing, or name nothing; a classical frame has no data phase, which would make it shorter
+NOTHING = {
+    "lengths can 8 --bitrate 500000 --data-bitrate 2000000": "--data-bitrate concerns nothing of can",
+    "lengths ethernet 8 --bitrate 500000 --extended": "--extended concerns nothing of ethernet",
+    "lengths can 8 --bitrate 500000 --tagged": "--tagged concerns nothing of can",
+    "optimise {0} --seconds nan": "write a number above 0",
+    "worst {0} b --seconds nan": "--seconds is above 0",
+    "worst {0} --tries 2 b": "words that aren't options stand together",
+}
 TWICE = ("graph {0} --to a.svg --to b.svg", "verdict {0} --tick 1us --tick 2us", "worst {0} --seed 1 b --seed 1")
 
 
@@ -105,6 +114,9 @@ def check_refused(program, file, room):
         status, said = ended(asked(call, program, file, room), stdout=subprocess.DEVNULL)
         hold(status == 1 and ("can't be written" in said or "no folder can be made" in said), f"{call}: {said}")
         hold("Traceback" not in said, f"{call}: {said}")
+    for call, line in NOTHING.items():
+        status, said = ended(asked(call, program, file), stdout=subprocess.DEVNULL)
+        hold(status in (1, 2) and line in said, f"{call}: {status} {said}")
     for call in TWICE:
         status, said = ended(asked(call, program, file), stdout=subprocess.DEVNULL)
         hold(status in (2, 10) and "stands twice" in said, f"{call}: {status} {said}")

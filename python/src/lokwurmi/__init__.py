@@ -45,6 +45,7 @@ if TYPE_CHECKING:
         UnitsRefused,
         Unreadable,
         WordsRefused,
+        WrongType,
     )
     from lokwurmi.model.clocks import Clock, Release
     from lokwurmi.model.conversion import NoticeWarning, NoUnitWarning, Rounding, RoundingWarning
@@ -134,6 +135,7 @@ __all__ = [
     "Verdict",
     "Verdicts",
     "WordsRefused",
+    "WrongType",
     "changes_of",
     "default_engine",
     "generated_system",

@@ -25,6 +25,10 @@ class NotInstalled(LokwurmiError, ImportError):
         )
 
 
+class WrongType(LokwurmiError, TypeError):
+    """Something has another type than is asked for, as a text where a list of tasks has to be."""
+
+
 class UnitsRefused(LokwurmiError, ValueError):
     """A time or a unit can't be taken: it has another form, no safe side, or too many ticks."""
 

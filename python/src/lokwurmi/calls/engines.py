@@ -8,7 +8,7 @@ from typing import Protocol
 from lokwurmi.calls.library import Library
 from lokwurmi.calls.program import Program
 from lokwurmi.calls.texts import bytes_of
-from lokwurmi.errors import CallFailed, NoEngine, SessionClosed
+from lokwurmi.errors import CallFailed, NoEngine, SessionClosed, WrongType
 from lokwurmi.files import report_lines as lines
 from lokwurmi.model.statuses import Status
 from lokwurmi.refusals.program_lines import error_of
@@ -93,10 +93,17 @@ class KeptByScript:
 _chosen: Engine | None = None
 
 
+def checked(engine: Engine) -> Engine:
+    """An engine; what can't be called as one is refused."""
+    if not callable(getattr(engine, "call", None)):
+        raise WrongType(f"{engine!r} is no engine: write Library() or Program(), or leave it out")
+    return engine
+
+
 def use(engine: Engine | None) -> None:
     """Has all calls that name no engine be answered by this one; by the default one again where it is None."""
     global _chosen
-    _chosen = engine
+    _chosen = None if engine is None else checked(engine)
 
 
 def default_engine(command: str = "analyse") -> Engine:
@@ -121,7 +128,8 @@ def answer(
     command: str, files: Sequence[bytes], words: Sequence[str | int] = (), engine: Engine | None = None
 ) -> tuple[int, str]:
     """The status, which is below 10, and the text of a call; raises what it is refused by."""
-    status, text = (engine or default_engine(command)).call(command, files, words)
+    chosen = default_engine(command) if engine is None else checked(engine)
+    status, text = chosen.call(command, files, words)
     if not Status.is_answer(status):
         raise error_of(status, text)
     if status not in ANSWERED.get(command, (status,)):
@@ -131,7 +139,7 @@ def answer(
 
 def keep(system: bytes, engine: Engine | None = None) -> KeptSession:
     """A session that is kept: by the library where it has them, else by a script that any engine replays."""
-    chosen = engine or default_engine()
+    chosen = default_engine() if engine is None else checked(engine)
     if isinstance(chosen, Library) and chosen.has("open"):
         return chosen.keep(system)
     return KeptByScript(chosen, system)

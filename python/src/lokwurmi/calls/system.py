@@ -7,12 +7,12 @@ from typing import TYPE_CHECKING, Any, overload
 
 from lokwurmi.calls.engines import Engine, KeptSession, answer, keep
 from lokwurmi.calls.texts import WHILE_RUNNING
-from lokwurmi.errors import ChainsRefused, LokwurmiError, Refused, SystemRefused, UnitsRefused, WordsRefused
+from lokwurmi.errors import ChainsRefused, LokwurmiError, Refused, SystemRefused, UnitsRefused, WordsRefused, WrongType
 from lokwurmi.files.chain_files import written
 from lokwurmi.files.system_files import entries_in, head_of, system_text
 from lokwurmi.model.conversion import NoticeWarning, Rounding, warn
 from lokwurmi.model.entries import Chain, Resource, Task
-from lokwurmi.model.named_entries import NamedEntries, name_of, names_of
+from lokwurmi.model.named_entries import NamedEntries, listed, name_of, names_of
 from lokwurmi.model.units import Time, text_of, whole_ticks
 from lokwurmi.refusals.sentences import (
     may_deserve_notice,
@@ -29,6 +29,14 @@ if TYPE_CHECKING:
 
 TraceLike = str | Iterable[tuple[Any, ...]]
 """A trace or a schedule: its text, or rows as `("event", "sa", 0)`."""
+ROWS = "a trace or a schedule is a text, or a list of rows, as [('event', 's', 0)]"
+
+
+def path_of(file: str | os.PathLike[str]) -> FilePath:
+    """The path of a file."""
+    if not isinstance(file, (str, os.PathLike)):
+        raise WrongType(f"{file!r} is no name of a file: write a text or a Path")
+    return FilePath(file)
 
 
 class System(NamedEntries):
@@ -80,13 +88,15 @@ class System(NamedEntries):
 
     def to_file(self, file: str | os.PathLike[str]) -> None:
         """Writes the system file."""
-        FilePath(file).write_text(self.to_toml(), encoding="utf-8")
+        path_of(file).write_text(self.to_toml(), encoding="utf-8")
 
     @classmethod
     def from_toml(cls, text: str, tick: "Time | str | None" = None) -> "System":
         """The system of a system file. What no entry can be made of, as a key that none has, raises an error, as a text
         that isn't TOML. With a tick, times may have units: texts as "250 us", and `bitrate` of a bus. Where some have
         one, a NoUnitWarning tells the numbers that have none."""
+        if not isinstance(text, str):
+            raise WrongType(f"a system file is a text, and not {text!r}: of bytes write text.decode()")
         system = cls(tick)
         entries, system.is_large = entries_in(text, tick is not None)
         for part, several in system._parts().items():
@@ -100,12 +110,13 @@ class System(NamedEntries):
     @classmethod
     def from_file(cls, file: str | os.PathLike[str], tick: "Time | str | None" = None) -> "System":
         """The system of a system file; with a tick, its times may have units."""
+        path = path_of(file)
         try:
-            return cls.from_toml(FilePath(file).read_text(encoding="utf-8"), tick)
+            return cls.from_toml(path.read_text(encoding="utf-8"), tick)
         except UnicodeDecodeError as fault:
             raise LokwurmiError(f"{file}: it isn't UTF-8: {fault.reason} at byte {fault.start}") from fault
         except LokwurmiError as fault:
-            fault.args = (f"{os.fspath(file)}: {fault}",)
+            fault.args = (f"{path}: {fault}",)
             raise
 
     # ---- calls
@@ -161,7 +172,10 @@ class System(NamedEntries):
         """A trace or a schedule as a text. Its times have no safe side: those with a unit must be whole ticks."""
         if isinstance(it, str):
             return it
-        rows = [[whole_ticks(one, self._tick, "a row") if isinstance(one, Time) else one for one in row] for row in it]
+        several: list[list[Any]] = [listed(row, ROWS) for row in listed(it, ROWS)]
+        rows = [
+            [whole_ticks(one, self._tick, "a row") if isinstance(one, Time) else one for one in row] for row in several
+        ]
         return "".join(",".join(map(str, row)) + "\n" for row in rows)
 
     def analyse(self, *, engine: Engine | None = None) -> reports.Report:
@@ -212,7 +226,8 @@ class System(NamedEntries):
             from lokwurmi.calls.sessions import Session
 
             return Session(self, engine)
-        text = script if isinstance(script, str) else "".join(f"{line}\n" for line in script)
+        says = "a script is a text, or a list of lines"
+        text = script if isinstance(script, str) else "".join(f"{line}\n" for line in listed(script, says))
         found, told = self._told_answer("session", [text], engine=engine)
         several = reports.reports(found, self._tick, told, clocks=self.clocks)
         if refused := [edit for report in several for edit in report.refused.items()]:
@@ -299,8 +314,10 @@ class System(NamedEntries):
         """Chains with deadlines, judged: a list of Chain, or the text of a file of chains. The premise is that of
         `chain`, and so are the ticks more; a deadline with a unit is rounded down."""
         self._check_periods()
-        several = [] if isinstance(chains, str) else list(chains)
+        several = [] if isinstance(chains, str) else listed(chains, "`chains` takes a text, or a list of Chain")
         for it in several:
+            if not isinstance(it, Chain):
+                raise WrongType(f"{it!r} is no Chain: write Chain('brake', ['sense', 'act'], reaction=50)")
             names_of(it.tasks, f"chain {it.name!r}")
         text, told = (chains, []) if isinstance(chains, str) else written(several, self._tick)
         self._warn(told)

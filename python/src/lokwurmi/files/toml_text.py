@@ -4,6 +4,8 @@ import re
 from collections.abc import Mapping
 from typing import Any
 
+from lokwurmi.errors import WrongType
+
 # a text that needs no escapes, as each name that is accepted
 _is_plain = re.compile(r"[A-Za-z0-9_.-]*").fullmatch
 
@@ -26,7 +28,7 @@ def value_text(it: Any) -> str:
     if hasattr(it, "__index__"):
         # a whole number of another library, as numpy.int64
         return str(it.__index__())
-    raise TypeError(f"{it!r} is no value of a system file")
+    raise WrongType(f"{it!r} is no value of a system file: write a whole number, a text, or a list of these")
 
 
 def table_text(entry: Mapping[str, Any]) -> str:

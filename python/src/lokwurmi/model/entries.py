@@ -8,7 +8,7 @@ from collections.abc import Mapping
 from dataclasses import asdict, dataclass, fields
 from typing import Any
 
-from lokwurmi.errors import LokwurmiError, NoTick
+from lokwurmi.errors import LokwurmiError, NoTick, WrongType
 from lokwurmi.model.limits import TIMES
 from lokwurmi.model.units import Time, amount_of
 
@@ -135,13 +135,15 @@ _NAMES = {kind: name for name, kind in KINDS.items()}
 
 
 def kind_name(it: Entry) -> str:
-    """resource, source, task or path."""
-    return _NAMES[type(it)]
+    """resource, source, task or path; one of a class below these counts as of these."""
+    if kind := next((kind for kind in KINDS.values() if isinstance(it, kind)), None):
+        return _NAMES[kind]
+    raise WrongType(f"{it!r} is no resource, source, task or path: hand over what was added to a system")
 
 
 def keys_of(it: Entry) -> dict[str, Any]:
     """The keys of an entry that have a value, with it."""
-    found = {key: value for key in _KEYS[type(it)] if (value := getattr(it, key)) is not None}
+    found = {key: value for key in _KEYS[KINDS[kind_name(it)]] if (value := getattr(it, key)) is not None}
     if "locks" in found:
         found["locks"] = [_section_keys(it.name, lock) for lock in found["locks"]]
     return found

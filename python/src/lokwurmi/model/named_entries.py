@@ -7,7 +7,7 @@ import copy
 from collections.abc import Iterable
 from typing import Any, Self, TypeVar
 
-from lokwurmi.errors import LokwurmiError
+from lokwurmi.errors import LokwurmiError, WrongType
 from lokwurmi.frames import execution
 from lokwurmi.model.clocks import Clock
 from lokwurmi.model.conversion import Converter, NoUnitWarning, Rounding, warn
@@ -18,17 +18,28 @@ from lokwurmi.model.units import Time, tick_of
 from lokwurmi.model.view import SystemView
 
 _Entry = TypeVar("_Entry", Resource, Source, Task, Path)
+_Item = TypeVar("_Item")
 
 
 def name_of(it: "str | Entry | Clock") -> str:
-    return it if isinstance(it, str) else it.name
+    name = it if isinstance(it, str) else getattr(it, "name", None)
+    if not isinstance(name, str):
+        raise WrongType(f"{it!r} is no name: write a text, as 'control', or what was added by it")
+    return name
+
+
+def listed(several: Iterable[_Item], what: str) -> list[_Item]:
+    """What there is several of; something that can't be is refused."""
+    if isinstance(several, bytes) or not isinstance(several, Iterable):
+        raise WrongType(f"{what}, and not {several!r}")
+    return list(several)
 
 
 def names_of(several: "Iterable[str | Entry]", what: str) -> list[str]:
     """The names of several entries; a text is one name, and its letters are none."""
     if isinstance(several, str):
-        raise TypeError(f"{what} is a list of tasks, and not a text: write [{several!r}]")
-    return [name_of(it) for it in several]
+        raise WrongType(f"{what} is a list of tasks, and not a text: write [{several!r}]")
+    return [name_of(it) for it in listed(several, f"{what} is a list of tasks, as ['sense', 'act']")]
 
 
 class NamedEntries:
@@ -248,8 +259,11 @@ class NamedEntries:
         >>> system.analyse().tasks["control"].worst
         6
         """
-        single = isinstance(after, (str, Source, Task))
-        starts: str | list[str] = name_of(after) if single else [name_of(it) for it in after]  # type: ignore
+        starts: str | list[str]
+        if isinstance(after, (str, Source, Task)):
+            starts = name_of(after)
+        else:
+            starts = [name_of(it) for it in listed(after, "`after` is a name, or a list of these")]
         turn = (priority, slot, region, list(locks or ()) or None)
         return self._add(Task(name, name_of(on), starts, best, worst, payload, extended, *turn))
 
@@ -275,7 +289,9 @@ class NamedEntries:
 
     def execution(self, task: str | Task) -> tuple[int, int]:
         """The least and the greatest execution of a task in ticks; those of a frame by its payload."""
-        entry = keys_of(self.tasks[name_of(task)])
+        if (name := name_of(task)) not in self.tasks:
+            raise LokwurmiError(f"there is no task {name!r}: the tasks are {', '.join(self.tasks) or 'none'}")
+        entry = keys_of(self.tasks[name])
         self._convert("task", entry)
         resource = keys_of(self.resources[entry["on"]]) if "payload" in entry else {}
         self._convert("resource", resource)

@@ -21,7 +21,7 @@ from functools import total_ordering
 from numbers import Rational
 from typing import Any
 
-from lokwurmi.errors import NoTick, UnitsRefused
+from lokwurmi.errors import NoTick, UnitsRefused, WrongType
 
 UNITS = {"ns": 1, "us": 1_000, "ms": 1_000_000, "s": 1_000_000_000}
 """How many nanoseconds each unit has."""
@@ -38,7 +38,7 @@ def exact(amount: Number) -> Fraction:
     (Fraction(1, 10), Fraction(16667, 1000))
     """
     if isinstance(amount, bool) or not isinstance(amount, (float, str, Decimal, Rational)):
-        raise TypeError(f"{amount!r} is no amount of time: write a number, or a text such as '16.667'")
+        raise WrongType(f"{amount!r} is no amount of time: write a number, or a text such as '16.667'")
     try:
         if isinstance(amount, Rational):
             return Fraction(int(amount.numerator), int(amount.denominator))
@@ -75,6 +75,8 @@ class Time:
         >>> Time.of("0.5 ms")
         us('500')
         """
+        if not isinstance(it, (Time, str)):
+            raise WrongType(f"{it!r} is no time: write a text such as '1us', or us(1)")
         return it if isinstance(it, Time) else cls(amount_of(it))
 
     def to(self, unit: str) -> Fraction:

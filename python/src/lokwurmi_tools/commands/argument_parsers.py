@@ -2,10 +2,11 @@
 import argparse
 import itertools
 import os
+import sys
 import textwrap
 from collections.abc import Callable, Sequence
 from dataclasses import fields
-from typing import Any, TypeVar
+from typing import Any, NoReturn, TypeVar
 
 from lokwurmi.model.units import time_of
 from lokwurmi_tools.commands.catalogue import named
@@ -51,14 +52,25 @@ class WordReader(argparse.ArgumentParser):
     def __init__(self, *words: Any, **more: Any):
         super().__init__(*words, **more)
         self.seen: set[str] = set()
+        self.given: list[str] = []
         for name in (None, "store"):
             self.register("action", name, StoredOnce)
 
     def parse_known_args(self, args: Any = None, namespace: Any = None) -> Any:
         self.seen.clear()
+        self.given = list(sys.argv[1:] if args is None else args)
         found, rest = super().parse_known_args(args, namespace)
         self.check_files(found)
         return found, rest
+
+    def error(self, message: str) -> NoReturn:
+        """The same, with what helps where a file begins as an option does, or words that belong together don't stand
+        so."""
+        if file := next((it for it in self.given if it.startswith("-") and os.path.exists(it)), None):
+            message += f"; write ./{file} for the file {file}"
+        elif message.startswith("unrecognized arguments") and not message.split(": ")[1].startswith("-"):
+            message += "; words that aren't options stand together, behind the options or before them"
+        super().error(message)
 
     def files_of(self, words: argparse.Namespace, is_written: bool) -> list[tuple[str, str]]:
         """The files to write, or those to read, each with the word that names it."""

@@ -89,6 +89,9 @@ def check(options: GanttOptions) -> None:
     for name in ("report", "longest", "chain", "clock"):
         if getattr(options, name) and not options.trace:
             raise Fault(f"--{name} wants --trace, which tells when jobs came")
+    for name in ("chain", "chains", "trace", "longest", "clock", "report"):
+        if getattr(options, name) == "":
+            raise Fault(f"--{name} names nothing: write a word, or leave it out")
     if options.chains and not options.chain:
         raise Fault("--chains wants --chain, the name of one of them")
     if options.what and not options.chain:

@@ -39,6 +39,13 @@ def main(arguments: list[str] | None = None) -> int:
     options = options_of(LengthOptions, reader.parse_args(arguments))
     if not 0 <= options.bytes <= MOST[options.kind]:
         reader.error(f"{options.bytes} bytes: a frame of this kind has 0 to {MOST[options.kind]}")
+    for word, is_given, kinds in (
+        ("--data-bitrate", options.data_bitrate is not None, ("fd", "error")),
+        ("--extended", options.extended, ("can", "fd", "error")),
+        ("--tagged", options.tagged, ("ethernet",)),
+    ):
+        if is_given and options.kind not in kinds:
+            reader.error(f"{word} concerns nothing of {options.kind}: it is of {' and '.join(kinds)}; leave it out")
     if options.data_bitrate and options.data_bitrate < options.bitrate:
         reader.error("--data-bitrate is below --bitrate: the data phase isn't the slower one")
     tell_length(options)

@@ -48,4 +48,6 @@ def main(arguments: list[str] | None = None) -> int:
     words = reader.parse_args(arguments)
     if words.rounds < 1 or words.restarts < 0:
         raise Fault("there is at least 1 round, and no negative number of restarts")
+    if words.seconds is not None and not words.seconds > 0:
+        raise Fault(f"--seconds {words.seconds:g}: write a number above 0")
     return tell_priorities(options_of(PriorityOptions, words), words.file, words.program, words.chains, words.json)

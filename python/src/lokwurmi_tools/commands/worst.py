@@ -87,12 +87,14 @@ def main(arguments: list[str] | None = None) -> int:
         reader.error("name a task, or --path NAME, or --all, or --chain TASK,TASK..")
     if options.all and (options.to or options.draw):
         reader.error("--to and --draw want one task, path or chain")
+    if options.chain == "":
+        reader.error("--chain names nothing: write TASK,TASK.. or the name of a chain of --chains")
     if options.chains and not options.chain:
         reader.error("--chains wants --chain, the name of one of them")
     if options.keep and not options.all:
         reader.error("--keep wants --all")
-    if options.jobs < 1 or options.tries < 1 or options.seconds <= 0:
-        reader.error("--jobs, --tries and --seconds are at least 1")
+    if options.jobs < 1 or options.tries < 1 or not options.seconds > 0:
+        reader.error("--jobs and --tries are at least 1, and --seconds is above 0")
     if options.draw:
         check_name(options.draw)
     return find_worst(options)

@@ -31,8 +31,8 @@ from lokwurmi_tools.shared.faults import Fault
 from lokwurmi_tools.shared.program import written_by
 from lokwurmi_tools.shared.progress import Progress
 from lokwurmi_tools.shared.report import bounds_in, read_report, reports_in
-from lokwurmi_tools.shared.written_entries import comment
 from lokwurmi_tools.shared.system_file import read_system
+from lokwurmi_tools.shared.written_entries import comment
 
 # the first format with clocks
 WITH_CLOCKS = KEYS_SINCE["source"]["clock"]
