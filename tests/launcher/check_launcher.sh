@@ -176,8 +176,7 @@ for command in $commands; do
   operands=$(sed -n '1s/^lokwurmi [a-z]* //; 1s/ *\[.*//; 1p' "$room/text" | sed 's/FILE/two.toml/; s/TRACES/3/; s/TRACE/two.csv/; s/NUMBER/1/; s/SIZE/2/')
   # shellcheck disable=SC2086 # words
   call --unproved "$command" $operands
-  [ "$command" = schedule ] || operands="$command $operands"
-  hold "--unproved $command: as that command is called" is "$status $(cat "$room/text")" "0 tried $operands"
+  hold "--unproved $command: as that command is called" is "$status $(cat "$room/text")" "0 tried $command $operands"
 done
 call --quiet --unproved analyse two.toml
 hold "--quiet --unproved: that line stays" is "$(grep -cE "$note" "$room/said") $(wc -l <"$room/said")" "1 1"
