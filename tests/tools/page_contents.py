@@ -1,6 +1,7 @@
 """What a page of an example shows, beside what the program writes: numbers, bars, loads, parts of bounds, a run, and
 changes."""
 import json
+import math
 import os
 import re
 import tomllib
@@ -91,6 +92,11 @@ def check_bars(page):
                 all(abs(width - bound * per) < 2 for width, bound in known),
                 f"the parts of {path.name}: {known}, and the deadline is at {at}",
             )
+
+
+def above(share):
+    """A share in percent, rounded up."""
+    return f"{math.ceil(share * 1000) / 10:.1f} %"
 
 
 def check_loads(page):

@@ -10,12 +10,11 @@ from lokwurmi.results.verdicts import OF_CHAINS
 from lokwurmi_tools.bounds.chain_parts import parts_of
 from lokwurmi_tools.page.page_options import PageOptions
 from lokwurmi_tools.page.run_pictures import SeenRun
-from lokwurmi_tools.page.system_tables import PageSystem
+from lokwurmi_tools.page.system_tables import PageSystem, place_text
 from lokwurmi_tools.pictures.colours import letters_on
 from lokwurmi_tools.runs.effect_chain_in_run import Late, RunOfJobs, gaps_in, seen_of
 from lokwurmi_tools.shared.chain_files import bounds_by, read_chains, verdicts_by
 from lokwurmi_tools.shared.system_file import silences_in
-from lokwurmi_tools.shared.tables import percent_above
 from lokwurmi_tools.shared.types import Values
 
 
@@ -47,7 +46,7 @@ class ChainTable:
         self.scale = max([1, *sums, *limits]) * Fraction(102, 100)
 
     def share(self, ticks: int) -> str:
-        return percent_above(Fraction(ticks) / self.scale)
+        return place_text(Fraction(ticks) / self.scale)
 
     def bar(self, chain: Chain, what: str, deadline: int | None, late: Late | None) -> Values:
         found = self.found[chain.name]
@@ -60,7 +59,7 @@ class ChainTable:
             "parts": [self.part(*of, ticks) for of, ticks in parts_of(self.bounds[chain.name].steps, what)],
             "at": None if deadline is None else self.share(deadline),
             "seen": late and late.ticks(),
-            "seen_at": late and percent_above(min(Fraction(late.ticks()) / self.scale, Fraction(1))),
+            "seen_at": late and place_text(min(Fraction(late.ticks()) / self.scale, Fraction(1))),
             "room": None if bound is None or deadline is None else deadline - bound,
         }
 

@@ -19,7 +19,7 @@ from lokwurmi_tools.shared.analysed import analysed
 from lokwurmi_tools.shared.faults import Fault
 from lokwurmi_tools.shared.packages import need
 from lokwurmi_tools.shared.system_file import noticed_in
-from lokwurmi_tools.shared.tables import percent_above
+from lokwurmi_tools.shared.tables import percent_above, percent_below
 from lokwurmi_tools.shared.times import Scale, text_of
 from lokwurmi_tools.shared.types import Values
 from lokwurmi_tools.shared.written_entries import put
@@ -53,7 +53,7 @@ def room_of(scale: Scale) -> "jinja2.Environment":
         lstrip_blocks=True,
         undefined=jinja2.StrictUndefined,
     )
-    room.filters["percent"] = percent_above
+    room.filters["percent"], room.filters["percent_below"] = percent_above, percent_below
     room.filters["breaking"] = breaking
     room.filters["time"] = scale.text
     room.filters["moment"] = scale.text if scale.tick else "tick {}".format

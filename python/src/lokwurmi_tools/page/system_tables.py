@@ -30,6 +30,11 @@ MOST_LOOKS = 5_000_000
 LETTERS = 70
 
 
+def place_text(share: Fraction | float) -> str:
+    """How long a bar is, or where a mark stands on it, in percent of its room."""
+    return f"{float(share) * 100:.1f}"
+
+
 def label(name: str, bound: str, share: Fraction) -> str:
     """What there is room for on a part of a path's bar."""
     return next((text for text in (f"{name} {bound}", name, bound) if len(text) + 1 <= share * LETTERS), "")
@@ -62,7 +67,7 @@ class PageSystem:
                     "value": float(share),
                     "parts": self.resource_parts(name),
                     "over": share > 1,
-                    "full": percent_above(1 / max(share, Fraction(1))),
+                    "full": place_text(1 / max(share, Fraction(1))),
                 }
             )
         return rows
@@ -76,7 +81,7 @@ class PageSystem:
         whole = max(self.view.utilisation(name), Fraction(1))
         order = sorted(by_source.items(), key=lambda it: -it[1])
         parts = (
-            (source, {"share": percent_above(share), "width": percent_above(share / whole)}) for source, share in order
+            (source, {"share": percent_above(share), "width": place_text(share / whole)}) for source, share in order
         )
         return [{"name": source, **shares, "hue": self.hue_of_source[source]} for source, shares in parts]
 
@@ -94,8 +99,8 @@ class PageSystem:
             "deadline": deadline,
             "value": None if share is None else float(share),
             "share": None if share is None else percent_above(share),
-            "width": percent_above(min(share, Fraction(1))) if share is not None else "100",
-            "seen_at": percent_above(min(Fraction(seen, deadline), Fraction(1))) if seen is not None else None,
+            "width": place_text(min(share, Fraction(1))) if share is not None else "100",
+            "seen_at": place_text(min(Fraction(seen, deadline), Fraction(1))) if seen is not None else None,
         }
 
     def rank(self, name: str) -> Values:
@@ -204,9 +209,8 @@ class PageSystem:
             share = Fraction(bound or 0) / scale
             text = label(task, self.scale.text(bound or 0), share)
             look = {"label": text, "hue": shade, "ink": letters_on(shade)}
-            parts.append(
-                {"name": task, "on": self.view.tasks[task].on, "bound": bound, "width": percent_above(share)} | look
-            )
+            told = {"name": task, "on": self.view.tasks[task].on, "bound": bound}
+            parts.append(told | {"width": place_text(share)} | look)
         return parts
 
     def is_told(self, part: Values) -> bool:
@@ -228,9 +232,9 @@ class PageSystem:
                     "parts": parts,
                     "told": all(map(self.is_told, parts)),
                     "room": found.slack,
-                    "at": None if found.deadline is None else percent_above(Fraction(found.deadline) / scale),
+                    "at": None if found.deadline is None else place_text(Fraction(found.deadline) / scale),
                     "seen": seen,
-                    "seen_at": None if at is None else percent_above(Fraction(at) / scale),
+                    "seen_at": None if at is None else place_text(Fraction(at) / scale),
                 }
             )
         return rows
