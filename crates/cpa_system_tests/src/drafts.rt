@@ -178,6 +178,18 @@ fn add_runs(alloc: Global, draft: &mut Draft, runs: &[Run]) -> Result<(), AllocE
     Ok(())
 }
 
+fn fill(
+    alloc: Global,
+    draft: &mut Draft,
+    first: &[&str],
+    others: &[&str],
+    runs: &[Run],
+) -> Result<(), AllocError> {
+    add_all(alloc, draft, first)?;
+    add_all(alloc, draft, others)?;
+    add_runs(alloc, draft, runs)
+}
+
 /// What validation says of a draft: the reason, the part and the place.
 fn told(
     alloc: Global,
@@ -193,9 +205,7 @@ fn told(
         paths: Vec::new(alloc),
     };
     needs_shared(&draft);
-    add_all(alloc, &mut draft, first)?;
-    add_all(alloc, &mut draft, others)?;
-    add_runs(alloc, &mut draft, runs)?;
+    fill(alloc, &mut draft, first, others, runs)?;
     Ok(match validate(alloc, &draft).err() {
         Some(BuildFault::Refused(refusal)) => {
             Some((refusal.reason, refusal.part, refusal.place))

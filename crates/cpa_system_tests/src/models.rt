@@ -261,21 +261,41 @@ fn builds_queues(rt: HostRuntime) -> Result<(), Fail> {
     Ok(())
 }
 
+/// The ceilings of two locks on a processor, and of one that isn't used on a resource.
+fn ceilings_of(system: &System) -> Option<[u32; 3]> {
+    if system.resources() != 2 {
+        return None;
+    }
+    Some([
+        system.ceiling(ResId(0), "bus".as_bytes()),
+        system.ceiling(ResId(0), "file".as_bytes()),
+        system.ceiling(ResId(1), "bus".as_bytes()),
+    ])
+}
+
+/// By how long the second and the third task keep a more urgent one waiting: the first, the first, and the second.
+fn waits_of(system: &System) -> Option<[u64; 3]> {
+    if system.tasks() != 4 {
+        return None;
+    }
+    Some([
+        system.ceiling_blocking(TaskId(0), TaskId(1)),
+        system.ceiling_blocking(TaskId(0), TaskId(2)),
+        system.ceiling_blocking(TaskId(1), TaskId(2)),
+    ])
+}
+
 /// The ceilings of a processor's locks, and by how long a task keeps a more urgent one waiting: by the rest of a region or of a section.
 #[test]
 fn knows_ceilings(rt: HostRuntime) -> Result<(), Fail> {
     let alloc = rt.alloc();
     let system = read_system(alloc, LOCKED.as_bytes())?;
     let copy = system.copy(alloc)?;
-    let res = ResId(0);
+    let ceilings = ceilings_of(&copy);
+    let waits = waits_of(&copy);
     assert!(rt;
-        (copy.resources(), copy.tasks()) == (2, 4)
-            && copy.ceiling(res, "bus".as_bytes()) == 1
-            && copy.ceiling(res, "file".as_bytes()) == 3
-            && copy.ceiling(ResId(1), "bus".as_bytes()) == 536_870_911
-            && copy.ceiling_blocking(TaskId(0), TaskId(1)) == 2
-            && copy.ceiling_blocking(TaskId(0), TaskId(2)) == 4
-            && copy.ceiling_blocking(TaskId(1), TaskId(2)) == 4
+        ceilings == Some([1, 3, 536_870_911]) && waits == Some([2, 4, 4]),
+        "{ceilings:?} {waits:?}"
     );
     Ok(())
 }
