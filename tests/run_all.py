@@ -286,9 +286,9 @@ def found_by(check: Check, until: float | None, least: float = LEAST_SECONDS) ->
     left = None if until is None else until - began
     if left is not None and left < least:
         return Found(check, "skipped", "no time is left")
+    # a signal that is passed over here, as the end of the terminal under nohup, isn't by what is checked
     work = subprocess.Popen(
-        call_of(check),
-        shell=True,
+        ["env", "--default-signal", "sh", "-c", call_of(check)],
         cwd=TOP,
         stdin=subprocess.DEVNULL,
         stdout=subprocess.PIPE,
