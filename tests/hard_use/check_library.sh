@@ -34,10 +34,10 @@ for cc in g++ clang++; do
   $cc -std=c++11 -Wall -Wextra -pedantic -Werror -Ilibrary "$room/header.cc" $library -o "$room/header" || fault "$cc over the header"
   "$room/header" || fault "$cc: a program that closes a handle"
 done
-for it in library/report library/edits tests/library_calls tests/library_refused tests/library_threads; do
+for it in library/report library/edits tests/hard_use/library_calls tests/hard_use/library_refused tests/hard_use/library_threads; do
   flags=()
-  [ "$it" != tests/library_refused ] || flags=("-Wl,--wrap=malloc" "-Wl,--wrap=realloc")
-  [ "$it" != tests/library_threads ] || flags=(-pthread)
+  [ "$it" != tests/hard_use/library_refused ] || flags=("-Wl,--wrap=malloc" "-Wl,--wrap=realloc")
+  [ "$it" != tests/hard_use/library_threads ] || flags=(-pthread)
   cc -std=c11 -O2 -Wall -Wextra -Werror -Ilibrary "${flags[@]}" -o "$room/${it##*/}" $it.c $library || exit 1
 done
 tried=0
