@@ -230,7 +230,7 @@ def check_calls():
         done = run("optimise", "--program", PROGRAM, late, "--rounds", "1", "--restarts", "0")
     if done.returncode != 3 or "regions stay as they are" not in done.stdout:
         sys.exit(f"regions: {done.returncode} {done.stdout} {done.stderr}")
-    done = run("optimise", *words, "--rounds", "0")
+    done = run("optimise", "--program", PROGRAM, file, "--rounds", "0")
     if done.returncode != 1 or "at least 1 round" not in done.stderr:
         sys.exit(f"{file}: {done.returncode} {done.stderr}")
 
