@@ -232,7 +232,10 @@ def check_progress(program):
             told,
         )
         done = call(["pycpa_first.toml", "--path", "polled", "--tries", "1000000", "--seconds", "2"], program)
-        hold(done[0] == 0 and "the time was up before all tries were made in the search of 1 of 3" in done[2], f"the time: {done}")
+        hold(
+            done[0] == 0 and "the time was up before all tries were made in the search of 1 of 3" in done[2],
+            f"the time: {done}",
+        )
 
 
 # how long a search may go on after its time, on a busy machine too: by its tries alone it would take hours
