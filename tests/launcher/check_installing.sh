@@ -22,7 +22,7 @@ mkdir -p "$to/bin" && touch "$to/bin/another"
 git -C "$work" init -q && git -C "$work" -c user.name=a -c user.email=a@b commit -q --allow-empty -m a
 LOKWURMI_JOBS=2 call install "$to"
 hold "install: status" is "$status" 0
-hold "install: builds what isn't built" is "$(grep -c '^run' "$room/calls")" 3
+hold "install: builds what isn't built" is "$(grep -c '^run' "$room/calls")" 1
 hold "install: says what it has written" said '^lokwurmi: [0-9]+ files are written below '
 hold "install: says what the search path lacks" said "^lokwurmi: $to/bin isn't in the search path: export PATH="
 hold "install: says that sources aren't committed" said "changes that aren't committed, and --version of the copy says so"
@@ -39,7 +39,7 @@ copy analyse two.toml
 hold "the copy: a command" is "$status $(cat "$room/text")" "0 called analyse two.toml"
 hold "the copy: says nothing beside" [ ! -s "$room/said" ]
 copy schedule two.toml two.csv
-hold "the copy: another program" is "$(cat "$room/text")" "called two.toml two.csv"
+hold "the copy: a command of two files" is "$(cat "$room/text")" "called schedule two.toml two.csv"
 copy analyse status.14
 hold "the copy: refusals in words" said '^lokwurmi: the file is TOML but no system.*put here/lib/lokwurmi/docs/FILES.md'
 copy analyse status.10
@@ -67,7 +67,7 @@ copy --version
 hold "a program that was changed is told" said "^NOT the proved build: cpa_cli isn't what was installed$" "$room/text"
 mv "$room/elsewhere" "$work"
 LOKWURMI_JOBS=2 call install "$to"
-hold "install once more: builds nothing" is "$(grep -c '^run' "$room/calls")" 3
+hold "install once more: builds nothing" is "$(grep -c '^run' "$room/calls")" 1
 copy --version
 hold "install once more: it is the proved build" said '^the proved build' "$room/text"
 PYTHONPATH="$to/lib/lokwurmi/python/src" python3 -c 'import lokwurmi, lokwurmi_tools.pictures.system_graph'
