@@ -62,7 +62,8 @@ fn is_preemptive(kind: Kind) -> bool
     }
 }
 
-/// Whether a task has neither regions of more than a tick nor critical sections.
+/// Whether a job of a task keeps no more urgent one waiting: the lesser of its region and its worst time is at most a tick, and it has
+/// no critical sections.
 fn is_without_sections(task: &Task) -> bool
     requires { task.now.worst ≤ MAX_EXECUTION }
     ensures { result ≡ is_without_sections task.now }

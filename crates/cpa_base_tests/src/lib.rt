@@ -1,5 +1,5 @@
 //! Tests of the lowest crates by their public calls: names, vectors, frames, files and sinks, event models, least windows, the
-//! bounds of the four local analyses, and boards.
+//! bounds of the local analyses, and boards.
 //!
 //! They stand here, above those crates, so that what they try isn't proved once more with them.
 #![tactic(auto)]

@@ -27,7 +27,7 @@ task = [
 ]
 "#;
 
-/// Resources of all four kinds. `a` comes after two sources, `b` after `a` and a source, and `c` after a source and `b`.
+/// Resources of four kinds. `a` comes after two sources, `b` after `a` and a source, and `c` after a source and `b`.
 const JOINED: &str = r#"format = 2
 resource = [
   { name = "p", kind = "preemptive", limit = 1000 },

@@ -55,7 +55,7 @@ task = [
 ]
 "#;
 
-/// All four kinds of resource: `high` preempts `low`; `m1` waits for the frame of `m2`, and its second job follows the first;
+/// Four kinds of resource: `high` preempts `low`; `m1` waits for the frame of `m2`, and its second job follows the first;
 /// the phase of the ring lets `t` run in ticks 10, 11 and 20.
 pub const FOUR_KINDS: &str = r#"format = 1
 resource = [

@@ -1,16 +1,15 @@
 -- Blocking under ceilings: by no more than a task takes, by regions alone where it has no critical sections, and by more where tasks or their
 -- critical sections take longer.
-use Rattle.std.proofs.Common.{◌≡◌, ℕ, ◌+◌, ◌-◌, ◌<◌, ◌≤◌, false, length, List, [], ◌∷◌, map, max, refl, ap, subst, arith}
+use Rattle.std.proofs.Common.{◌≡◌, ℕ, ◌+◌, ◌-◌, ◌<◌, ◌≤◌, length, List, [], ◌∷◌, map, max, refl, ap, subst, arith}
 use Rattle.std.specs.Prelude.{filter, fold}
 use Rattle.std.specs.List.{range_with_len, list_any, AllZip}
 use Rattle.std.specs.Str.{bytes_eq}
-use Rattle.std.proofs.lemmas.Bool.{true≢false}
 use Rattle.std.proofs.lemmas.Bool.Decides.{nat_tests}
 use Rattle.cpa_units.specs.declared.limits.TheConstants.{MAX_PRIORITY}
 use Rattle.cpa_model.specs.declared.entries.Kind.{Kind}
 use Rattle.cpa_model.specs.declared.entries.Kind.TheVariants.{Preemptive, RoundRobin, Tdma, Can, Fifo, Ceiling}
 use Rattle.cpa_model.specs.declared.locks.CriticalSection.{CriticalSection}
-use Rattle.cpa_model.specs.Kinds.{has_ceilings, blocking_by}
+use Rattle.cpa_model.specs.Kinds.{blocking_by}
 use Rattle.cpa_model.specs.Locks.{Section, section_of, section_blocking, lock_sections, uses_lock, ceiling_of, ceiling_blocking}
 use Rattle.cpa_model.specs.SystemLists.{SystemLists, task_at, is_on, priority_of}
 use Rattle.cpa_local.specs.Blocking.{blocking_between}
@@ -50,15 +49,6 @@ between-plain s (Tdma gap) i j none = refl
 between-plain s (Can bit) i j none = refl
 between-plain s Fifo i j none = refl
 between-plain s Ceiling i j none = rw none (omega arith)
-
--- and by what the kind says where it has no ceilings
-pub between-fixed : (s : SystemLists) (kind : Kind) (i j : ℕ) → has_ceilings kind ≡ false → blocking_between s kind i j ≡ blocking_by kind (task_at s j)
-between-fixed s Preemptive i j fixed = refl
-between-fixed s RoundRobin i j fixed = refl
-between-fixed s (Tdma gap) i j fixed = refl
-between-fixed s (Can bit) i j fixed = refl
-between-fixed s Fifo i j fixed = refl
-between-fixed s Ceiling i j fixed = absurd (true≢false fixed)
 
 -- ---- more where each task asks for at least as much
 

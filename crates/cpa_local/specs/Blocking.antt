@@ -10,10 +10,6 @@ use Rattle.cpa_model.specs.SystemLists.{SystemLists, task_at, task_places, is_hi
 abbrev pub lower_tasks : SystemLists → ℕ → List ℕ
 lower_tasks s i = filter (λ j. is_higher s j i) (task_places s)
 
--- the greatest blocking by one of some tasks, whichever they keep waiting, 0 if there are none
-abbrev pub greatest_blocking : SystemLists → Kind → List ℕ → ℕ
-greatest_blocking s kind js = fold (λ most j. max most (blocking_by kind (task_at s j))) 0 js
-
 -- by how long a job of task j keeps one of task i waiting, which is more urgent: by what the kind says, and under ceilings by critical sections
 -- besides
 abbrev pub blocking_between : SystemLists → Kind → ℕ → ℕ → ℕ

@@ -1,4 +1,4 @@
-//! The commands of the programs that take their words as texts: `schedule`, `chain` and `chains`.
+//! The commands of the program that take their words as texts: `schedule`, `chain` and `chains`.
 
 ghost use Rattle.std.specs.Prelude.{◌≡◌, ◌≢◌, ◌++◌, ◌∷◌, [], codes, map, string_bytes, IfOk, OnOk};
 ghost use Rattle.std.specs.Str.Lines.{lines};

@@ -61,7 +61,7 @@ TurnFits (kind.Tdma gap) (turn.Slot ticks) = (1 ≤ ticks) × (ticks ≤ MAX_EXE
 TurnFits kind.Fifo turn.Queued = Unit {0}
 TurnFits _ _ = ⊥
 
--- a region is in its range; only under preemptive priority is it more than a tick
+-- a region is in its range; only under preemptive priority and under ceilings is it more than a tick
 abbrev pub RegionFits : Kind → ℕ → Type 0
 RegionFits kind.Preemptive ticks = (1 ≤ ticks) × (ticks ≤ MAX_EXECUTION)
 RegionFits kind.Ceiling ticks = (1 ≤ ticks) × (ticks ≤ MAX_EXECUTION)

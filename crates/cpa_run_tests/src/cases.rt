@@ -193,7 +193,7 @@ task = [
 ]
 "#;
 
-/// Tasks on resources of all four kinds, most of them after several sources and tasks; the resources depend on each other in a
+/// Tasks on resources of four kinds, most of them after several sources and tasks; the resources depend on each other in a
 /// cycle.
 pub const JOINED_KINDS: &str = r#"format = 2
 resource = [

@@ -12,7 +12,7 @@ use cpa_units::{TaskId, Vector};
 use std::alloc::{AllocError, Global};
 use std::test::Fail;
 
-/// Three chains over resources of all four kinds, in a cycle, and a task that nothing reads.
+/// Three chains over resources of four kinds, in a cycle, and a task that nothing reads.
 const FOUR_KINDS: &str = r#"format = 1
 resource = [
   { name = "p", kind = "preemptive", limit = 3000 },
