@@ -120,7 +120,7 @@ is_clocked_task s i = list_any (λ (k : SourceId). is_clocked (source_at s k.0))
 abbrev pub is_off_clocks : SystemLists → ℕ → Bool
 is_off_clocks s r = list_all (λ i. not (is_clocked_task s i)) (tasks_on s r)
 
--- whether a task has neither regions of more than a tick nor critical sections: it keeps none waiting that is more urgent
+-- whether a job of a task keeps no more urgent one waiting: its region or its worst time is a tick, and it has no critical sections
 abbrev pub is_without_sections : Task → Bool
 is_without_sections t = blocking_by Preemptive t == 0 && length t.locks == 0
 

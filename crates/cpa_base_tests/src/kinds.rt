@@ -1,4 +1,4 @@
-//! Bounds of single tasks under each of the four local analyses, and the limits at which they are just within reach.
+//! Bounds of single tasks under priorities, round robin, TDMA and CAN, and the limits at which they are just within reach.
 
 ghost use Rattle.std.specs.Prelude.{◌≤◌};
 ghost use Rattle.std.specs.Option.{ForSome};
