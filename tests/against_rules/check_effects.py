@@ -33,7 +33,7 @@ from tests.rules import runs
 from tests.rules.bounds import OVERLOAD
 from tests.rules.chain_files import refusal_of
 from tests.rules.effect_chains import READINGS, Bounds, Observed, told_chains
-from tests.support import chain_files
+from tests.support import chain_texts
 from tests.support.calls import built, outcome, written
 from tests.support.systems import KINDS, chains_in, file_of, near_trace, rows_of, small_system
 
@@ -78,11 +78,11 @@ class Programs:
 
     def compare_chains(self, system, bounds, chains, draw, tally):
         listed = [(f"c{k}", tasks, *deadlines(draw, bounds, tasks)) for k, tasks in enumerate(chains)]
-        self.judge(system, chain_files.text_of(listed), told_chains(bounds, listed))
+        self.judge(system, chain_texts.text_of(listed), told_chains(bounds, listed))
         tally["files of chains"] += 1
         tally["verdicts"] += 3 * len(listed)
         for _ in range(3):
-            text = chain_files.damaged(draw, listed)
+            text = chain_texts.damaged(draw, listed)
             refusal = refusal_of(text, bounds.rules.tasks)
             if refusal:
                 self.judge(system, text, self.refused(*refusal))

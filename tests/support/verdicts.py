@@ -10,7 +10,7 @@ import tempfile
 import tomllib
 
 from tests.rules import effect_chains
-from tests.support import chain_files, systems
+from tests.support import chain_texts, systems
 from tests.support.calls import NEEDS_PROGRAM, TOP, add_number, hold, reader_of, tell, tool, written
 from tests.support.stand_in import stand_in
 
@@ -168,7 +168,7 @@ def random_pair(tools, number):
         found.append(
             (
                 tools.file(f"{version}.toml", text),
-                tools.file(f"{version}.chains.toml", chain_files.text_of(chains)),
+                tools.file(f"{version}.chains.toml", chain_texts.text_of(chains)),
                 text,
                 chains,
             )

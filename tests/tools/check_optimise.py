@@ -29,7 +29,7 @@ from lokwurmi_tools.shared.analysed import analysed
 from lokwurmi_tools.shared.system_text import toml_of
 from tests.rules import effect_chains
 from tests.rules.bounds import OVERLOAD
-from tests.support import chain_files
+from tests.support import chain_texts
 from tests.support.calls import NEEDS_PROGRAM, TOP, add_number, answer, built, outcome, reader_of, run, written
 from tests.support.systems import some_region
 
@@ -268,7 +268,7 @@ def check_with_chains(number, room):
     after."""
     system, way, hard, is_there = chained_small(number)
     file = written(room, "chained.toml", toml_of(system))
-    listed = written(room, "listed.toml", chain_files.text_of([("c", way, *hard, None)]))
+    listed = written(room, "listed.toml", chain_texts.text_of([("c", way, *hard, None)]))
     script = os.path.join(room, "chained.script")
     words = [file, "--chains", listed, "--script", script, "--rounds", "5", "--restarts", "2"]
     done = run("optimise", "--program", PROGRAM, *words, "--json")
@@ -292,7 +292,7 @@ def check_chains(count, first):
     """Such systems; how many have an order that meets."""
     with tempfile.TemporaryDirectory() as room:
         several = [check_with_chains(number, room) for number in range(first, first + count)]
-        bad = written(room, "bad.toml", chain_files.text_of([("a", ["nobody"], None, None, None)]))
+        bad = written(room, "bad.toml", chain_texts.text_of([("a", ["nobody"], None, None, None)]))
         file = os.path.join(TOP, "examples", "effects.toml")
         done = run("optimise", "--program", PROGRAM, file, "--chains", bad)
         if done.returncode != 18 or "bad.toml:3:" not in done.stderr:

@@ -26,7 +26,7 @@ from lokwurmi_tools.shared import progress
 from lokwurmi_tools.shared.analysed import analysed
 from lokwurmi_tools.shared.system_text import toml_of
 from tests.rules import bounds, effect_chains, locks
-from tests.support import chain_files, systems
+from tests.support import chain_texts, systems
 from tests.support.calls import (
     NEEDS_PROGRAM,
     TOP,
@@ -264,7 +264,7 @@ def values_up_to(pick, steps):
 def check_with_chains(number, system, chains, room):
     """Each number of a system with chains, by files of its own; a period at all values up to what is told."""
     file = written(room, "chained.toml", toml_of(system))
-    listed, pick = written(room, "listed.toml", chain_files.text_of(chains)), random.Random(number)
+    listed, pick = written(room, "listed.toml", chain_texts.text_of(chains)), random.Random(number)
     known = analysed(PROGRAM, file)
     question = margin_question.MarginQuestion(known, {}, True, ChainGoals(known, listed))
     now = question.now().first()
@@ -300,7 +300,7 @@ def check_late_and_again(room):
     """A chain that is late with a shorter period, and in time with a still shorter one: the first that is late counts,
     though the tool tries the other before it."""
     file = written(room, "again.toml", AGAIN)
-    listed = written(room, "again.chains.toml", chain_files.text_of([("c", ["a", "b"], 122, None, None)]))
+    listed = written(room, "again.chains.toml", chain_texts.text_of([("c", ["a", "b"], 122, None, None)]))
     done = run(TOOL, "--program", PROGRAM, file, "--chains", listed, "--only", "period")
     hold(re.search(r"^period of s +10 +9 +-10.0 % +chain c reaction$", done.stdout, re.M), done.stdout, "calls")
     for period, takes in ((10, 121), (9, 120), (8, 123), (7, 122)):
@@ -311,7 +311,7 @@ def check_late_and_again(room):
 def check_chain_calls(room):
     """What the tool writes of chains, and what it says of files that aren't taken."""
     file = os.path.join(TOP, "examples", "effects.toml")
-    good = written(room, "good.toml", chain_files.text_of([("show", ["sense", "act"], 50, None, None)]))
+    good = written(room, "good.toml", chain_texts.text_of([("show", ["sense", "act"], 50, None, None)]))
     done = run(TOOL, "--program", PROGRAM, file, "--chains", good, "--only", "longer-period", "--only", "deadline")
     # the wait of act is 20 + 5 - 1 = 24, and its reaction 9 + 3 + 24 + 9 = 45: five ticks more are 50
     hold(re.search(r"^period of slow +20 +25 +\+25.0 % +chain show reaction$", done.stdout, re.M), done.stdout, "calls")
@@ -319,10 +319,10 @@ def check_chain_calls(room):
     hold("hold if sources stay near: a source that falls silent" in done.stdout, "the premise", "calls")
     told = json.loads(run(TOOL, "--program", PROGRAM, file, "--chains", good, "--only", "deadline", "--json").stdout)
     hold(told["premise"] == "if sources stay near" and told["chains_file"] == good, f"{told}", "calls")
-    late = written(room, "late.toml", chain_files.text_of([("a", ["act"], None, None, None), ("b", ["act"], 9, 9, 9)]))
-    bad = written(room, "bad.toml", chain_files.text_of([("a", ["nobody"], None, None, None)]))
+    late = written(room, "late.toml", chain_texts.text_of([("a", ["act"], None, None, None), ("b", ["act"], 9, 9, 9)]))
+    bad = written(room, "bad.toml", chain_texts.text_of([("a", ["nobody"], None, None, None)]))
     never = os.path.join(TOP, "examples", "overload.toml")
-    endless = written(room, "endless.toml", chain_files.text_of([("never", ["a1", "b1"], 500, None, None)]))
+    endless = written(room, "endless.toml", chain_texts.text_of([("never", ["a1", "b1"], 500, None, None)]))
     # the wait of act is 24, its response 9
     for words, status, said in (
         ([file, "--chains", late], 3, f"{late}: line 4: chain b reaction: 33, 24 too late, of 9\n"),

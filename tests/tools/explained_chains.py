@@ -10,7 +10,7 @@ from lokwurmi_tools.bounds.explained_chain import ExplainedChains, lines_of_chai
 from lokwurmi_tools.shared.analysed import analysed
 from lokwurmi_tools.shared.chain_files import AskedChain
 from tests.rules import bounds, effect_chains
-from tests.support import chain_files, systems
+from tests.support import chain_texts, systems
 from tests.support.calls import TOP, hold, run, written
 from tests.support.stand_in import stand_in
 
@@ -70,7 +70,7 @@ def check_random_chains(numbers, room):
 
 def check_chain_texts(room, program):
     """What is written of chains: sums that are worked out by hand, times, and another file's deadlines."""
-    listed = written(room, "listed.toml", chain_files.text_of([("c", ["sense", "filter", "act"], 46, 30, 48)]))
+    listed = written(room, "listed.toml", chain_texts.text_of([("c", ["sense", "filter", "act"], 46, 30, 48)]))
     words = [EFFECTS, "--program", program, "--chains", listed, "--chain", "c"]
     done = run(TOOL, *words, env={"PYTHONIOENCODING": "utf-8"})
     for said in (
@@ -96,8 +96,8 @@ def check_chain_texts(room, program):
 
 def check_chain_faults(room, program):
     """Chains that aren't taken, a bound that isn't the sum of its parts, and one that isn't there."""
-    listed = written(room, "listed.toml", chain_files.text_of([("c", ["sense"], None, None, None)]))
-    bad = written(room, "bad.toml", chain_files.text_of([("c", ["nobody"], None, None, None)]))
+    listed = written(room, "listed.toml", chain_texts.text_of([("c", ["sense"], None, None, None)]))
+    bad = written(room, "bad.toml", chain_texts.text_of([("c", ["nobody"], None, None, None)]))
     endless = os.path.join(TOP, "examples", "overload.toml")
     for words, status, said in (
         ([EFFECTS, "--chain", "sense,no"], 1, "has no task no; it has sense, filter, act"),

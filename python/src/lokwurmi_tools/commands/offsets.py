@@ -22,8 +22,8 @@ import os
 from lokwurmi.model.limits import MOST_TICKS
 from lokwurmi_tools.commands.argument_parsers import add_program, options_of, reader_of
 from lokwurmi_tools.pictures.plotting import check_name
+from lokwurmi_tools.search.offset_search import OffsetOptions
 from lokwurmi_tools.search.offset_texts import tell_offsets
-from lokwurmi_tools.search.offsets import OffsetOptions
 from lokwurmi_tools.shared.faults import Fault
 
 EXAMPLES = """examples:

@@ -10,7 +10,7 @@ from lokwurmi.files.documents import Document
 from lokwurmi.files.text_files import File
 from lokwurmi.results.reports import Report
 from lokwurmi.results.verdicts import CLOCK_PREMISE, CLOCK_WORDS
-from lokwurmi_tools.search.offsets import Found, OffsetOptions, OffsetSearch, told
+from lokwurmi_tools.search.offset_search import Found, OffsetOptions, OffsetSearch, told
 from lokwurmi_tools.shared.analysed import Analysed, analysed
 from lokwurmi_tools.shared.faults import Fault
 from lokwurmi_tools.shared.packages import need
