@@ -1,5 +1,5 @@
-"""Tells a refusal or a notice in words: the front of this package, for the launcher; accepted.py is for the
-commands."""
+"""Tells a refusal or a notice in words: the front of this package, for the launcher. Tools come to it by
+`lokwurmi_tools.shared.system_file`."""
 from __future__ import annotations
 
 import contextlib

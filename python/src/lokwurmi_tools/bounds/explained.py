@@ -1,6 +1,6 @@
 """What there is to tell of the bounds of a report: the parts of each, and what lies behind one that is `overload`.
 
-All of it is worked out here, by parts.py, and held against the report: `faults` says where the two differ.
+All of it is worked out here, by `bound_parts`, and held against the report: `faults` says where the two differ.
 """
 from fractions import Fraction
 
