@@ -1,9 +1,8 @@
--- By how long tasks below one keep it waiting: by no more than they take, and by no more where fewer are above; and what a ceiling says of its users.
-use Rattle.std.proofs.Common.{◌≡◌, ℕ, zero, suc, ◌+◌, ◌<◌, ◌≤◌, ◌==◌, ◌&&◌, ◌||◌, nat_le, min, max, Bool, true, false, List, [], ◌∷◌, ◌++◌, length, refl, ap, sym, ◌∙◌, inl, inr, arith}
+-- By how long tasks below one keep it waiting: by no more than they take, and by no more where fewer are above.
+use Rattle.std.proofs.Common.{◌≡◌, ℕ, zero, suc, ◌+◌, ◌<◌, ◌≤◌, ◌==◌, ◌&&◌, ◌||◌, max, Bool, true, false, List, [], ◌∷◌, ◌++◌, length, refl, ap, sym, ◌∙◌, inl, inr, arith}
 use Rattle.std.specs.Prelude.{filter, fold}
 use Rattle.std.specs.List.{list_any, range_with_len}
 use Rattle.std.proofs.lemmas.Bool.{and_parts, or_cases, cases_Bool, cases_lt, eqb-true, false≢true}
-use Rattle.std.proofs.lemmas.Bool.Decides.{nat_tests}
 use Rattle.std.proofs.lemmas.List.Folds.{list_any-append}
 use Rattle.std.proofs.lemmas.List.Sums.{fold-append}
 use Rattle.cpa_units.proofs.PlaceLaws.{places}
@@ -13,7 +12,6 @@ use Rattle.cpa_model.specs.declared.locks.CriticalSection.{CriticalSection}
 use Rattle.cpa_model.specs.Kinds.{blocking_by}
 use Rattle.cpa_model.specs.Locks.{uses_lock}
 use Rattle.cpa_model.specs.SystemLists.{SystemLists, task_at, tasks_on}
-use Rattle.cpa_local.proofs.PlaceLists.{least_over}
 use Rattle.cpa_assign.specs.Orders.{is_without_sections, is_preemptive}
 use Rattle.cpa_assign.specs.Placing.{is_reaching, reaches, placed_section, placed_sections, placed_between}
 use Rattle.cpa_assign.proofs.CountLaws.{passing-more, failing-more}
@@ -137,42 +135,3 @@ any-next on test k none fails =
 pub sections-push : (s : SystemLists) (r : ℕ) (above : ℕ → Bool) (i worst : ℕ) (cs : List CriticalSection) (c : CriticalSection)
     → placed_sections s r above i worst (cs ++ c ∷ []) ≡ max (placed_sections s r above i worst cs) (placed_section s r above i worst c)
 sections-push s r above i worst cs c = fold-append (λ most c. max most (placed_section s r above i worst c)) 0 cs (c ∷ [])
-
--- ---- what a ceiling says of its users
-
-le-min : (a b p : ℕ) → nat_le (min a b) p ≡ (nat_le a p || nat_le b p)
-le-min a b p = grind (arith, nat_tests)
-
-or-assoc : (a b c : Bool) → ((a || b) || c) ≡ (a || (b || c))
-or-assoc true b c = refl
-or-assoc false b c = refl
-
-and-none : (b : Bool) → (b && false) ≡ false
-and-none true = refl
-and-none false = refl
-
-and-some : (b : Bool) → (b && true) ≡ b
-and-some true = refl
-and-some false = refl
-
--- the least of some numbers is at most p just where one of them is
-pub least-reaches : (on uses test : ℕ → Bool) (number : ℕ → ℕ) (p most a n : ℕ) → ((j : ℕ) → a ≤ j → j < a + n → on j ≡ true → nat_le (number j) p ≡ test j)
-    → nat_le (least_over number most (filter uses (filter on (range_with_len a n)))) p ≡ (nat_le most p || list_any (λ k. test k && uses k) (filter on (range_with_len a n)))
-least-reaches on uses test number p most a zero h = sym (or-none (nat_le most p))
-  where
-    or-none : (b : Bool) → (b || false) ≡ b
-    or-none true = refl
-    or-none false = refl
-least-reaches on uses test number p most a (suc n) h =
-    let rest = λ (most : ℕ). least-reaches on uses test number p most (a + 1) n (λ j low high. h j (omega arith) (omega arith)) in
-    elim (cases_Bool (on a)) [
-      | inr fails ↦ rw fails (rest most)
-      | inl passes ↦ elim (cases_Bool (uses a)) [
-        | inr drops ↦ rw (passes, drops, and-none (test a)) (rest most)
-        | inl counts ↦
-            let here = h a (omega arith) (omega arith) passes in
-            rw (passes, counts, and-some (test a))
-            (rest (min most (number a)) ∙ ap (λ (b : Bool). b || list_any (λ k. test k && uses k) (filter on (range_with_len (a + 1) n))) (le-min most (number a) p ∙ ap (λ (b : Bool). nat_le most p || b) here)
-            ∙ or-assoc (nat_le most p) (test a) (list_any (λ k. test k && uses k) (filter on (range_with_len (a + 1) n))))
-      ]
-    ]

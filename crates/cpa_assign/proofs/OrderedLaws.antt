@@ -44,7 +44,8 @@ use Rattle.cpa_local.proofs.PlainLaws.{AreNone, none-at, plain-bounds, by_kind-p
 use Rattle.cpa_model.specs.Kinds.{HasPriorities}
 use Rattle.cpa_assign.specs.Orders.{are_sources, is_member, is_task_on, is_off_clocks, is_unblocked, is_preemptive, place_in, kth_priority, number_up_to, ordered_task, with_order, IsOrder, IsOrderable}
 use Rattle.cpa_assign.specs.Placing.{sources_model, rival_at, rivals_at, is_below, reaches, placed_section, placed_between, placed_blocking, placed_by_kind, source_anchors, clocked_rival_at, clocked_rivals_at, placed_on_clocks, placed_by_clocks, placed_bound}
-use Rattle.cpa_assign.proofs.BelowLaws.{between-none, least-reaches, sections_from}
+use Rattle.cpa_local.proofs.CeilingLaws.{least-reaches}
+use Rattle.cpa_assign.proofs.BelowLaws.{between-none, sections_from}
 use Rattle.cpa_assign.proofs.AbleLaws.{fed-source, off-clock, unblocked-each, compared}
 use Rattle.cpa_assign.proofs.OrderLaws.{is_before, same_place, flip-no, before-place, before-member, place-less, place-own}
 use Rattle.cpa_local.proofs.BlockingLaws.{greatest-none}

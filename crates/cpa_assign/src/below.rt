@@ -3,11 +3,11 @@
 ghost use Rattle.std.specs.Prelude.{◌≡◌, ◌<◌, ◌≤◌, ◌&&◌, max, length};
 ghost use Rattle.cpa_units.specs.declared.limits.TheConstants.{MAX_EXECUTION};
 ghost use Rattle.cpa_units.specs.Sets.{holds};
-ghost use Rattle.cpa_model.specs.Locks.{uses_lock};
 ghost use Rattle.cpa_model.specs.SystemLists.{is_on};
 ghost use Rattle.cpa_assign.specs.Placing.{is_below, is_reaching, reaches, placed_section, placed_sections, placed_between, placed_blocking, without};
 
 use crate::placing::stands_above;
+use cpa_local::uses_lock;
 use cpa_model::{CriticalSection, Kind, System, Task};
 use cpa_units::{ResId, TaskId};
 
@@ -18,16 +18,6 @@ fn stands_below(system: &System, res: ResId, free: &[bool], task: TaskId, other:
     ensures { result ≡ is_below system.now res.0 (without (holds free.now) task.0) task.0 other.0 }
 {
     system.task(other).res.0 == res.0 && !(stands_above(free, task, other) || other.0 == task.0)
-}
-
-/// Whether a task uses a lock.
-fn uses_lock(task: &Task, lock: &[u8]) -> bool
-    ensures { result ≡ uses_lock lock.now task.now }
-{
-    task.locks
-        .sections()
-        .iter()
-        .any(|section| lock == section.lock.bytes())
 }
 
 /// Whether another task of the resource is the one at the lowest free place, or above it, and uses a lock.

@@ -1,5 +1,6 @@
 pub mod BlockingLaws
 pub mod LockLaws
+pub mod CeilingLaws
 pub mod CycleLaws
 pub mod SentLaws
 pub mod InputLaws

@@ -25,7 +25,7 @@ sections_from priority worst most sections = fold (λ most x. max most (section_
 section-small : (priority worst : ℕ) (x : Section) → section_blocking priority worst x ≤ worst
 section-small priority worst x = grind (arith, nat_tests)
 
-sections-small : (priority worst most : ℕ) (sections : List Section) → most ≤ worst → sections_from priority worst most sections ≤ worst
+pub sections-small : (priority worst most : ℕ) (sections : List Section) → most ≤ worst → sections_from priority worst most sections ≤ worst
 sections-small priority worst most [] small = small
 sections-small priority worst most (x ∷ sections) small =
     sections-small priority worst (max most (section_blocking priority worst x)) sections (omega (arith, small, section-small priority worst x))

@@ -42,7 +42,7 @@ other-on s i k h = eqb-sym (task_at s i).res.0 (task_at s k).res.0 (and_parts _ 
 
 -- ---- one task of the resource further
 
-take-places : (ids : List TaskId) (k : ℕ) (d : TaskId) → k < length ids → places_of (take (k + 1) ids) ≡ places_of (take k ids) ++ (get_or ids k d).0 ∷ []
+pub take-places : (ids : List TaskId) (k : ℕ) (d : TaskId) → k < length ids → places_of (take (k + 1) ids) ≡ places_of (take k ids) ++ (get_or ids k d).0 ∷ []
 take-places ids k d less = ap places_of (take_more ids k d less) ∙ map-append place_of (take k ids) (get_or ids k d ∷ [])
 
 pub passing-more : (q : ℕ → Bool) (ids : List TaskId) (k : ℕ) (d : TaskId) → k < length ids → q (get_or ids k d).0 ≡ true

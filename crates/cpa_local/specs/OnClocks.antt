@@ -1,6 +1,6 @@
 -- Where the streams of tasks are on the clocks of their sources (Tindell 1994; Palencia and González Harbour 1998). No bound bears on
 -- it: what a task sends on is later on its clock by its least execution, and its jitter greater.
-use Rattle.std.specs.Prelude.{ℕ, zero, suc, ◌+◌, Option, Some, None, option_map, List, [], ◌∷◌, map, length, slice_index_or}
+use Rattle.std.specs.Prelude.{ℕ, zero, suc, ◌+◌, Option, None, option_map, List, [], ◌∷◌, map, slice_index_or}
 use Rattle.std.specs.List.{flat_map}
 use Rattle.cpa_units.specs.declared.bound.Bound.{Bound}
 use Rattle.cpa_units.specs.declared.limits.TheConstants.{MAX_CHAIN}

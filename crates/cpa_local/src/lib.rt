@@ -9,6 +9,7 @@ mod analysis;
 mod anchor_list;
 mod anchoring;
 mod by_clocks;
+mod ceilings;
 mod chain_walks;
 mod clocks;
 mod gathering;
@@ -23,6 +24,7 @@ mod start;
 mod trail;
 
 pub use analysis::respond;
+pub use ceilings::uses_lock;
 pub use inputs::input;
 pub use laws::{
     inputs_follow_streams, least_solutions_have_laws, plain_responses_are_the_same,

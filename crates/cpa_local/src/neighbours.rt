@@ -1,6 +1,6 @@
 //! The other tasks of a task's resource, as its analysis sees them. All times are in ticks.
 
-ghost use Rattle.std.specs.Prelude.{ℕ, ◌≡◌, ◌<◌, ◌≤◌, ◌==◌, map, length, take, None, IfSome, slice_index_or};
+ghost use Rattle.std.specs.Prelude.{ℕ, ◌≡◌, ◌<◌, ◌≤◌, ◌==◌, max, map, length, take, None, IfSome, slice_index_or};
 ghost use Rattle.cpa_units.specs.declared.limits.TheConstants.{MAX_EXECUTION};
 ghost use Rattle.cpa_events.specs.Events.{IsModelInRange};
 ghost use Rattle.cpa_window.specs.Rivals.{IsRival, AreRivals};
@@ -11,6 +11,7 @@ ghost use Rattle.cpa_local.specs.Local.{rival_of};
 ghost use Rattle.cpa_local.specs.Solution.{IsVector};
 ghost use Rattle.cpa_local.specs.Worked.{IsLongest};
 
+use crate::ceilings::most_with_ceilings;
 use crate::prepared_inputs::keep;
 use cpa_events::Model;
 use cpa_model::{Kind, System, Task};
@@ -103,21 +104,22 @@ pub(crate) fn gather_others(
     count
 }
 
-/// By how many ticks a job of the second task keeps one of the first waiting, which is more urgent, on a resource of this kind:
-/// by what the kind says, and under ceilings by critical sections besides.
-fn blocking_between(system: &System, kind: Kind, task: TaskId, other: TaskId) -> u64
+/// The greatest of so many ticks, and of those by which a job of the second task keeps one of the first waiting, which is more
+/// urgent, on a resource of this kind: by what the kind says, and under ceilings by critical sections besides.
+fn most_with(system: &System, kind: Kind, task: TaskId, other: TaskId, most: u64) -> u64
     requires task { task.0 < length system.now.tasks }
     requires other { other.0 < length system.now.tasks }
-    ensures value { result ≡ blocking_between system.now kind task.0 other.0 }
+    requires small { most ≤ MAX_EXECUTION }
+    ensures value { result ≡ max most (blocking_between system.now kind task.0 other.0) }
     ensures in_range { result ≤ MAX_EXECUTION }
 {
     match kind {
-        Kind::Ceiling => system.ceiling_blocking(task, other),
+        Kind::Ceiling => most_with_ceilings(system, task, other, most),
         Kind::Preemptive
         | Kind::RoundRobin
         | Kind::Tdma { gap: _ }
         | Kind::Can { bit: _ }
-        | Kind::Fifo => kind.blocking_by(system.task(other)),
+        | Kind::Fifo => most.max(kind.blocking_by(system.task(other))),
     }
 }
 
@@ -131,7 +133,7 @@ pub(crate) fn blocking(system: &System, task: TaskId, kind: Kind) -> u64
     let mut most: u64 = 0;
     for other in system.tasks_on(system.task(task).res) {
         if system.is_higher(*other, task) {
-            most = most.max(blocking_between(system, kind, task, *other));
+            most = most_with(system, kind, task, *other, most);
         }
     }
     most

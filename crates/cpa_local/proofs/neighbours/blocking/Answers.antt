@@ -17,11 +17,11 @@ loop-other-preserved c =
     elim c.if-is_higher.branch [
       | then-is_higher w ↦
           let lower = sym c.is_higher.ensures ∙ w.if-is_higher.true in
-          let short = w.blocking_between.ensures.in_range in
+          let short = w.most_with-most.ensures.in_range in
           record {
-            found = rw (w.most-is, w.max-most.ensures, w.blocking_between.ensures.value, c.loop-other.invariant.found, passing-more (λ j. is_higher s j c.args.task.0) ids k no_id c.loop-other-test.true lower)
+            found = rw (w.most-is, w.most_with-most.ensures.value, c.loop-other.invariant.found, passing-more (λ j. is_higher s j c.args.task.0) ids k no_id c.loop-other-test.true lower)
                 (sym (greatest-push (blocking_between s c.args.kind c.args.task.0) (filter (λ j. is_higher s j c.args.task.0) (places_of (take k ids))) (get_or ids k no_id).0));
-            small = omega (arith, w.most-is, w.max-most.ensures, short, c.loop-other.invariant.small);
+            small = omega (arith, w.most-is, short);
           }
       | else-is_higher w ↦
           let higher = sym c.is_higher.ensures ∙ w.if-is_higher.false in
