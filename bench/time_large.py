@@ -8,6 +8,7 @@ of ten, and shorter ones have the higher priority. Windows end at the greatest l
   a task of it after a frame of another bus; each other frame is sent by a task on one of 40 processors.
 - one-bus-N, one-processor-N: N tasks on one bus, and on one processor, at a load of 0.55.
 - near-full-N: N frames on one bus at a load of 0.999.
+- locks-N: N tasks on 16 processors under ceilings at a load of 0.55, with up to three locks each.
 
 Prints a line a system: its tasks, the least seconds of some calls, of one processor, the peak memory in megabytes, and
 the last line of the report. The first two that it names have bounds, and it ends with 1 where one is passed.
@@ -18,7 +19,7 @@ import sys
 
 from bench.timing import names_of, passes, spent_over
 from tests.support.calls import built
-from tests.support.large_systems import buses, one_bus, one_processor
+from tests.support.large_systems import buses, one_bus, one_processor, with_locks
 
 PROGRAM = built("cpa_cli")
 # seconds and megabytes that a call may take at most
@@ -32,6 +33,8 @@ SYSTEMS = {
     "one-processor-2000": lambda: one_processor(2000),
     "one-processor-8000": lambda: one_processor(8000),
     "near-full-2000": lambda: one_bus(2000, 0.999),
+    "locks-2000": lambda: with_locks(2000),
+    "locks-8000": lambda: with_locks(8000),
 }
 
 

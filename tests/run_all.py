@@ -18,7 +18,9 @@ import sys
 import time
 from collections.abc import Callable
 from concurrent.futures import ThreadPoolExecutor, as_completed
+from contextlib import nullcontext
 from pathlib import Path
+from threading import Lock
 from typing import NamedTuple
 
 TOP = Path(__file__).resolve().parent.parent
@@ -144,6 +146,11 @@ QUICK = {
     "check_slack": "15",
     "check_effects": "--systems 30",
 }
+
+
+# those that count the processes of a campaign, of which one runs at a time
+CAMPAIGNS = ("check_campaign", "check_campaign_clusters")
+its_turn = Lock()
 
 
 class Check(NamedTuple):
@@ -309,6 +316,12 @@ def found_by(check: Check, until: float | None, least: float = LEAST_SECONDS) ->
     return Found(check, "failed" if work.returncode else "passed", why, time.monotonic() - began, text)
 
 
+def found_in_turn(check: Check, until: float | None) -> Found:
+    """The same, where checks that would take each other's processes for their own wait for each other."""
+    with its_turn if check.name in CAMPAIGNS else nullcontext():
+        return found_by(check, until)
+
+
 def show(it: Found, verbose: bool) -> None:
     """A line of a check, and what it wrote."""
     took = "" if it.outcome == "skipped" and not it.seconds else f"{it.seconds:6.0f} s"
@@ -333,7 +346,7 @@ def all_found(chosen: list[Check], asked: argparse.Namespace) -> list[Found]:
     prepare(chosen)
     found = []
     with ThreadPoolExecutor(jobs) as several:
-        for done in as_completed([several.submit(found_by, it, until) for it in chosen]):
+        for done in as_completed([several.submit(found_in_turn, it, until) for it in chosen]):
             found.append(done.result())
             show(found[-1], asked.verbose)
     return found
