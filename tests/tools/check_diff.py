@@ -29,6 +29,13 @@ LATER = HAND.replace("worst = 3", "worst = 4")
 LONGER = HAND.replace("worst = 7", "worst = 8")
 THIRD = '  { name = "c", on = "cpu", after = "sb", best = 9, worst = 99, priority = 3 },\n]\n'
 MORE = BARE.replace("priority = 2 },\n]\n", f"priority = 2 }},\n{THIRD}")
+# one task whose bound is what it takes, by which a tick is next to nothing
+LONG = """format = 1
+resource = [{ name = "cpu", kind = "preemptive" }]
+source = [{ name = "s", period = 9000000 }]
+task = [{ name = "a", on = "cpu", after = "s", best = 1, worst = 900000, priority = 1 }]
+"""
+LONG_AND_1, LONG_LESS = LONG.replace("900000,", "900001,"), LONG.replace("900000,", "1,")
 SAME = "no worse: no bound is lost, and no deadline newly missed"
 # two versions worked out by hand, the words of the call, its status, and what is told
 CHANGED = (
@@ -56,6 +63,9 @@ CHANGED = (
     (HAND, LATER, ("--worse", "1"), 1, ("newly missed, 3 bounds grew by more than 1 tick\n",)),
     (HAND, LONGER, ("--worse", "40%"), 0, ("no bound grew by more than 40 %",)),
     (HAND, LONGER, ("--worse", "39.9%"), 1, ("worse by more than 39.9 %:\n  task b",)),
+    (LONG, LONG_AND_1, (), 0, ("worse:\n  task a  response  900000 → 900001  +1, +0.0002 %",)),
+    (LONG_AND_1, LONG, (), 0, ("better:\n  task a  response  900001 → 900000  -1, -0.0001 %",)),
+    (LONG, LONG_LESS, (), 0, ("better:\n  task a  response  900000 → 1  -899999, -99.9 %",)),
     (HAND, LONGER, ("--tick", "10us"), 0, ("10 (100us) → 14 (140us)  +4 (+40us), +40.0 %",)),
 )
 
@@ -106,6 +116,8 @@ def check_damaged(tools, good, kept, chains):
     damaged = [
         (report.replace("best 2 worst 2", "best 2 wrst 2"), "line 1: `wrst` isn't `worst`"),
         (report.replace("worst 3", "worst x"), "line 2: `x` isn't a number or overload"),
+        (report.replace("worst 3", "worst \u0663"), "line 2: `\u0663` isn't a number or overload"),
+        (report.replace("worst 3", "worst " + 5000 * "9"), f"line 2: `{80 * '9'}` isn't a number or overload"),
         (report.replace("worst 3", "worst"), "line 2: the end of the line isn't a number or overload"),
         (report.replace("worst 3", "worst 3 4"), "line 2: `4` is a word too many"),
         (report.replace("task b", "task a"), "line 2: the task `a` stands there twice"),

@@ -2,7 +2,9 @@
 import json
 from collections.abc import Callable
 from dataclasses import dataclass
+from decimal import Decimal
 from fractions import Fraction
+from itertools import count
 
 from lokwurmi.results.differences import Change, Changes, Limit, Shift, changes_of
 from lokwurmi.results.effect_chains import ChainsReport
@@ -125,9 +127,10 @@ def groups_of(found: Changes, limit: Limit | None, is_all: bool) -> list[tuple[s
 
 
 def percent(grown: int, before: int) -> str:
-    """A growth in percent, with a digit behind the point, rounded away from 0."""
-    tenths = -(-abs(grown) * 1000 // before)
-    return f"{'-' if grown < 0 else '+'}{tenths // 10}.{tenths % 10} %"
+    """A growth in percent, rounded up, with a digit behind the point or as many as show that it isn't 0."""
+    digits = next(it for it in count(1) if abs(grown) * 100 * 10**it >= before)
+    parts = -(-grown * 100 * 10**digits // before)
+    return f"{Decimal(parts).scaleb(-digits):+f} %"
 
 
 def bound_cells(it: Change, ticks: TickTexts) -> list[str]:

@@ -5,15 +5,20 @@ from collections.abc import Sequence
 from typing import NoReturn
 
 from lokwurmi.model.units import Time
+from lokwurmi.refusals.remark import printable
 from lokwurmi.results.effect_chains import ChainsReport, chains_report
 from lokwurmi.results.reports import Report, reports
 from lokwurmi_tools.shared.faults import Fault
 
 # the status of what is no system, and so of what is no report
 NO_REPORT = 14
+# how many letters of a word that doesn't fit are shown at most
+MOST_SHOWN = 80
 # how a line of a report begins; one of a system file goes on with `=`
 BEGINS = re.compile(r"(?:task|path|summary|chain|line|step) +[^\s=]")
-NAME, NUMBER, BOUND, LIMIT = r"[A-Za-z0-9_.-]{1,64}", r"\d+", r"\d+|overload", r"\d+|-"
+# a number has 64 bits at most
+NAME, NUMBER = "[A-Za-z0-9_.-]{1,64}", "[0-9]{1,20}"
+BOUND, LIMIT = f"{NUMBER}|overload", f"{NUMBER}|-"
 VERDICT = "met|missed|unknown|none"
 WORDS = {
     NAME: "a name",
@@ -65,7 +70,7 @@ class ReportFile:
             if at == len(form) == len(words):
                 return
             best = max(best, (at, form[at] if at < len(form) else ""))
-        word = f"`{words[best[0]]}`" if best[0] < len(words) else "the end of the line"
+        word = f"`{printable(words[best[0]][:MOST_SHOWN])}`" if best[0] < len(words) else "the end of the line"
         wanted = f"isn't {WORDS.get(best[1], f'`{best[1]}`')}" if best[1] else "is a word too many"
         self.refuse(place, f"{word} {wanted}")
 
