@@ -138,7 +138,10 @@ def run(case: Case) -> list[str]:
             "LOKWURMI_FAULTS": "1",
             "LC_ALL": "C.UTF-8",
         }
-        words = [os.path.join(TOP, "lokwurmi"), *shlex.split(case.words)]
+        program = os.path.join(TOP, "lokwurmi")
+        words = [program, *shlex.split(case.words)]
+        if "<(" in case.words:
+            words = ["bash", "-c", f"{shlex.quote(program)} {case.words}"]
         done = subprocess.run(
             words, cwd=room, capture_output=True, env=environment, stdin=subprocess.DEVNULL, check=False
         )

@@ -20,12 +20,14 @@ from lokwurmi.model.statuses import Status
 from lokwurmi.refusals import chains, edits, notices
 from lokwurmi.refusals import program_lines as lines
 from lokwurmi.refusals import schedule, script, words
+from lokwurmi.refusals.reasons import EDIT_RULES
 from lokwurmi.refusals.remark import Look, Remark, listed, nearest, page, printable
 from lokwurmi.refusals.rules import Refusal, first_refusal
 from lokwurmi.refusals.toml_faults import fault_in
 from lokwurmi.refusals.trace import TraceOfSystem
 
 MOST_NOTICES = 10
+AGAIN = "this can't be read a second time: write it into a file to see the line and the word"
 
 
 def look_for(stream: TextIO) -> Look:
@@ -75,6 +77,10 @@ class Call:
         """The word that names the file of a sort."""
         return dict(zip(FILES[self.command], self.words)).get(sort)
 
+    def document(self) -> Document | None:
+        """The system, where it can be read a second time."""
+        return document_of(self.words[0]) if is_regular(self.words[0]) else None
+
     def told(self) -> str | None:
         """What to say; None where a hint by the status is all there is."""
         tellers = {
@@ -99,8 +105,8 @@ class Call:
         found = lines.told(self.line)
         if found is None:
             return None
-        again = "this can't be read a second time: write it into a file to see the line and the word"
-        return self.look.text(File(name, ""), Remark(found[0], None, "" if is_regular(name) else again, more=found[1]))
+        helps = "" if is_regular(name) else AGAIN
+        return self.look.text(File(name, ""), Remark(found[0], None, helps, more=found[1]))
 
     def on(self, name: str, fault: tuple[str, Remark] | None, wanted: str, file: File) -> str | None:
         """The remark on a fault, where the program found the same; else what its line says."""
@@ -144,8 +150,10 @@ class Call:
     def no_toml(self) -> str | None:
         # of `chains` either of its files may be the one
         name = self.line.removeprefix("not TOML ") if self.command == "chains" else self.file("system")
-        if not name or not is_regular(name):
+        if not name:
             return None
+        if not is_regular(name):
+            return self.look.text(File(name, ""), Remark("it isn't TOML", None, AGAIN, more="Statuses"))
         file = read_system(name)
         remark = fault_in(file)
         return self.look.text(file, remark) if remark else None
@@ -167,7 +175,7 @@ class Call:
         return self.on(name, script.fault_in(file), self.line.removeprefix("script refused "), file)
 
     def traced(self) -> tuple[File, TraceOfSystem] | None:
-        name, document = self.file("trace"), document_of(self.words[0])
+        name, document = self.file("trace"), self.document()
         if not name or not is_regular(name) or not document:
             return None
         file = read(name)
@@ -187,7 +195,7 @@ class Call:
         return self.look.text(found[0], remark) if remark else self.by_line(found[0].name)
 
     def schedule(self) -> str | None:
-        name, document = self.file("schedule"), document_of(self.words[0])
+        name, document = self.file("schedule"), self.document()
         if not name or not is_regular(name) or not document:
             return self.by_line(name) if name else None
         file = read(name)
@@ -195,9 +203,9 @@ class Call:
 
     def word(self) -> str | None:
         """The word of `assign`, `slack` or `chain` that can't be taken, or what is wrong in the file of `chains`."""
-        document = document_of(self.words[0]) if is_regular(self.words[0]) else None
+        document = self.document()
         if not document:
-            return None
+            return self.by_line(self.words[1 if self.command == "chains" else 0])
         if self.command == "chains":
             return self.chains(document)
         remark = words.remark_on(document, self.line, self.words[1:])
@@ -224,16 +232,16 @@ class Call:
 
     def ways_to_an_order(self) -> str:
         """What may help where `assign` finds no order."""
-        document = document_of(self.words[0]) if is_regular(self.words[0]) else None
+        document = self.document()
         tasks = document.entries["task"] if document else []
         has_region = any(it["on"] == self.words[1] and it.get("region", 1) > 1 for it in tasks)
         shorter = "shorten a region (a task may be held up by the longest below it), " if has_region else ""
         return f"take work off the resource, {shorter}or allow more time"
 
     def notices(self) -> str | None:
-        document = document_of(self.words[0]) if is_regular(self.words[0]) else None
+        document = self.document()
         if not document or first_refusal(document):
-            return None
+            return self.edits_by_line()
         remarks = notices.of_system(document)
         if self.command == "assign":
             remarks += notices.of_assign(document, self.words[1], self.status == Status.OK)
@@ -243,7 +251,8 @@ class Call:
             remarks += self.silences(document)
         file = File(self.words[0], document.text)
         told = "".join(self.look.text(file, it) for it in remarks)
-        return told + (self.refused_edits(document) if self.command == "session" and self.line else "")
+        edits_told = self.refused_edits(document) if self.command == "session" and self.line else ""
+        return told + (edits_told or "")
 
     def silences(self, document: Document) -> list[Remark]:
         """The waits for sporadic sources that leave a bound of `chain` or `chains` open."""
@@ -257,25 +266,38 @@ class Call:
         chains = silence.asked_in(read_system(self.words[1]).text) if is_regular(self.words[1]) else []
         return [*silence.remarks_on(document, chains)]
 
-    def refused_edits(self, document: Document) -> str:
+    def refused_edits(self, document: Document) -> str | None:
         """The edits that the program refused, by the lines that it wrote."""
-        file, wrote = read_script(self.words[1]), self.line.splitlines()
+        if not is_regular(self.words[1]):
+            return self.edits_by_line()
+        file = read_script(self.words[1])
         count, found = edits.refused_edits(document, file)
-        told = {it.words: it.remark for it in found}
-        texts = [self.look.text(file, told.get(line) or self.plain(file, line)) for line in wrote[:MOST_NOTICES]]
-        more = f", the first {MOST_NOTICES} of which are told here" if len(wrote) > MOST_NOTICES else ""
-        texts.append(
-            f"{printable(file.name)}: {len(wrote)} of {count} edits"
-            f" {'was' if len(wrote) == 1 else 'were'} refused{more}; the reports are of the system without"
-            f" {'it' if len(wrote) == 1 else 'them'} ({page('FILES.md')}, \"{edits.MORE}\")\n"
+        remarks = {it.words: it.remark for it in found}
+        several = [remarks.get(line) or self.plain(file, line) for line in self.line.splitlines()]
+        return self.edits_text(file, several, f"{len(several)} of {count} edits")
+
+    def edits_by_line(self) -> str | None:
+        """The same where script or system can't be read a second time."""
+        if self.command != "session" or not self.line:
+            return None
+        file = File(self.words[1], "")
+        several = [self.plain(file, line) for line in self.line.splitlines()]
+        return self.edits_text(file, several, f"{len(several)} edit{'' if len(several) == 1 else 's'}")
+
+    def edits_text(self, file: File, several: Sequence[Remark], what: str) -> str:
+        """Refused edits, and how many they are."""
+        is_one = len(several) == 1
+        more = f", the first {MOST_NOTICES} of which are told here" if len(several) > MOST_NOTICES else ""
+        return "".join(self.look.text(file, it) for it in several[:MOST_NOTICES]) + (
+            f"{printable(file.name)}: {what} {'was' if is_one else 'were'} refused{more}; the reports are of the system"
+            f" without {'it' if is_one else 'them'} ({page('FILES.md')}, \"{edits.MORE}\")\n"
         )
-        return "".join(texts)
 
     def plain(self, file: File, line: str) -> Remark:
         """A refused edit of which no more is known than its line."""
-        number, rule = re.findall(r"\d+", line)
-        says = f"the edit on line {number} was refused by rule {rule}"
-        return Remark(says, file.span_of_line(int(number)), is_notice=True)
+        number, rule = map(int, re.findall(r"\d+", line))
+        says = f"the edit on line {number} was refused: {EDIT_RULES[rule]} (rule {rule})"
+        return Remark(says, file.span_of_line(number) if file.text else None, is_notice=True)
 
 
 def unreadable(name: str) -> Remark:

@@ -47,6 +47,9 @@ def told(line: str) -> tuple[str, str] | None:
         says = f"{found[1]} does what the system rules out"
         says = f"the event of {name} at {rest[0]} doesn't come by its clock" if part == "clock" else says
         return says, "Status 17: the trace doesn't obey the system"
+    if found := _NAME.fullmatch(line):
+        section = "Effect chains" if found[1] == "chain" else "Status 18: the resource or the task is refused"
+        return str(NameRefused(Status.NAME_REFUSED, line, found[1], int(found[2]))), section
     return None
 
 

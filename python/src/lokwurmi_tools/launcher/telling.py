@@ -101,14 +101,6 @@ def hint(status: int, words: list[str]) -> str:
     return f'lokwurmi: {said}{PAGE}, "{section}"\n'
 
 
-def is_readable_again(command: Command, words: list[str]) -> bool:
-    """Whether none of the words of a call names what can be read once alone, as a pipe; a word that is no file is a
-    name."""
-    found = operands_of(command, words)
-    given = [it for it in found.words if os.path.exists(it)] if found else []
-    return all(os.path.isfile(it) or os.path.isdir(it) for it in given)
-
-
 def in_words(status: int, line: str, command: Command, words: list[str]) -> bool:
     """Says it by reading the files again, where that finds something to say, in time, and nothing is wrong with what
     would."""
@@ -142,8 +134,6 @@ def tell(status: int, wrote: str, words: list[str]) -> None:
     """What there is to say after a call, by what the program wrote: its first line, or of a session that ends with 0 to
     2 the lines of refused edits."""
     command = BY_NAME[words[0]]
-    if not is_readable_again(command, words[1:]):
-        wrote = ""
     if status <= 2:
         if command.words[0] == "FILE":
             in_words(status, wrote, command, words[1:])
