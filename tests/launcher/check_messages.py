@@ -140,7 +140,7 @@ def run(case: Case) -> list[str]:
         }
         program = os.path.join(TOP, "lokwurmi")
         words = [program, *shlex.split(case.words)]
-        if "<(" in case.words:
+        if "<(" in case.words or "$'" in case.words:
             words = ["bash", "-c", f"{shlex.quote(program)} {case.words}"]
         done = subprocess.run(
             words, cwd=room, capture_output=True, env=environment, stdin=subprocess.DEVNULL, check=False

@@ -5,6 +5,7 @@ import sys
 from typing import NoReturn
 
 from lokwurmi.errors import LokwurmiError
+from lokwurmi.refusals.remark import printable
 from lokwurmi_tools.commands.catalogue import COMMANDS, ToolCommand, command_of
 from lokwurmi_tools.shared.faults import Fault, Told
 from lokwurmi_tools.shared.packages import Missing, go_on
@@ -41,6 +42,11 @@ def end_by(number: int) -> NoReturn:
     raise SystemExit(128 + number)
 
 
+def say(fault: str) -> None:
+    """Says what ends a command, without what a terminal would obey."""
+    print("\n".join(map(printable, fault.split("\n"))), file=sys.stderr)
+
+
 def answered(command: ToolCommand, words: list[str]) -> int:
     """The status of a command whose output is out."""
     try:
@@ -65,7 +71,7 @@ def run(words: list[str]) -> int:
         return answered(command, rest)
     except LokwurmiError as fault:
         if not isinstance(fault, Told):
-            print(f"lokwurmi {command.name}: {fault}", file=sys.stderr)
+            say(f"lokwurmi {command.name}: {fault}")
         status = getattr(fault, "status", 1)
         return status if status > 0 else 1
     except Missing as fault:
@@ -92,7 +98,7 @@ def perform(words: list[str]) -> int:
     except BrokenPipeError:
         end_by(signal.SIGPIPE)
     except Fault as fault:
-        print(f"lokwurmi: {fault}", file=sys.stderr)
+        say(f"lokwurmi: {fault}")
         status = fault.status
     finally:
         sys.stdout, sys.stderr = written.stream, told.stream

@@ -21,7 +21,7 @@ from lokwurmi.refusals import chains, edits, notices
 from lokwurmi.refusals import program_lines as lines
 from lokwurmi.refusals import schedule, script, words
 from lokwurmi.refusals.reasons import EDIT_RULES
-from lokwurmi.refusals.remark import Look, Remark, listed, nearest, page, printable
+from lokwurmi.refusals.remark import Look, Remark, is_utf_8, listed, nearest, page, printable
 from lokwurmi.refusals.rules import Refusal, first_refusal
 from lokwurmi.refusals.toml_faults import fault_in
 from lokwurmi.refusals.trace import TraceOfSystem
@@ -88,6 +88,7 @@ class Call:
             Status.MISSED: self.notices,
             Status.OVERLOAD: self.notices,
             Status.NONE: self.no_answer,
+            Status.WORDS_REFUSED: self.no_words,
             Status.FILE_UNREAD: self.unreadable,
             Status.FILE_TOO_LONG: self.too_long,
             Status.NOT_TOML: self.no_toml,
@@ -113,6 +114,12 @@ class Call:
         return self.look.text(file, fault[1]) if fault and fault[0] == wanted else self.by_line(name)
 
     # ---- files
+
+    def no_words(self) -> str | None:
+        name = next((it for it in self.words if not is_utf_8(it)), None)
+        if name is None:
+            return None
+        return self.look.text(File(name, ""), Remark("the name isn't UTF-8", None, "rename it", more="The words"))
 
     def unreadable(self) -> str | None:
         name = self.line.removeprefix("cannot read ")

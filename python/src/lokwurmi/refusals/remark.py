@@ -38,11 +38,17 @@ class Remark:
     is_notice: bool = False
 
 
+def is_utf_8(word: str) -> bool:
+    """Whether the bytes of a word are UTF-8."""
+    return not any("\udc80" <= it <= "\udcff" for it in word)
+
+
 def printable(text: str) -> str:
     """The text without what a terminal would obey; a tabulator stays."""
-    return "".join(
-        it if it.isprintable() or it == "\t" else "\\x%02x" % ord(it) if ord(it) < 256 else "?" for it in text
-    )
+    # of a text that was no UTF-8 each such byte is a half of a pair
+    codes = {it: ord(it) - 0xDC00 if "\udc80" <= it <= "\udcff" else ord(it) for it in set(text) - {"\t"}}
+    hidden = {ord(it): f"\\x{code:02x}" if code < 256 else "?" for it, code in codes.items() if not it.isprintable()}
+    return text.translate(hidden)
 
 
 def columns(text: str) -> int:

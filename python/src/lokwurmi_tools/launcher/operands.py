@@ -21,7 +21,13 @@ class Operands(NamedTuple):
 
 def shown(word: str) -> str:
     """A word in quotes, with nothing that a terminal would obey."""
-    return "'" + "".join(it if it.isprintable() else ascii(it)[1:-1] for it in word).replace("'", "\\'") + "'"
+    return (
+        "'"
+        + "".join(it if it.isprintable() else ascii(it)[1:-1].replace("\\udc", "\\x") for it in word).replace(
+            "'", "\\'"
+        )
+        + "'"
+    )
 
 
 def without_flag(words: list[str]) -> list[str]:

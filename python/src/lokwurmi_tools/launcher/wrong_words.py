@@ -3,6 +3,7 @@ from __future__ import annotations
 
 import sys
 
+from lokwurmi.refusals.remark import is_utf_8
 from lokwurmi_tools.launcher.operands import shown, without_flag
 from lokwurmi_tools.launcher.paths import PAGE
 from lokwurmi_tools.launcher.table import BY_NAME, COMMANDS, MORE_TASKS, MOST_TASKS, RUNNING, WORDS, WORKERS, Command
@@ -40,6 +41,12 @@ def wrong_word(sort: str, word: str) -> str:
     """What is wrong with a word in the place of FILE, NUMBER and the like."""
     if not word:
         return f"the word for {sort or 'one more'} is empty"
+    if not is_utf_8(word):
+        of_file = "rename the file, or write /dev/stdin in its place and hand it over by <"
+        helps = (
+            of_file if sort in WORDS and WORDS[sort].is_file else "names have letters, digits, `_`, `-` and `.` alone"
+        )
+        return f"{shown(word)} isn't UTF-8: {helps}"
     if word.startswith("--"):
         return f"{shown(word)} is no option; --workers N is the only one, and --quiet stands before the command"
     if not word.startswith("-"):

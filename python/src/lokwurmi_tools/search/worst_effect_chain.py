@@ -13,6 +13,7 @@ from typing import NamedTuple
 
 from lokwurmi.files.traces import write
 from lokwurmi.model.view import SystemView
+from lokwurmi.refusals.remark import printable
 from lokwurmi_tools.runs.effect_chain_in_run import Late, RunOfJobs, seen_of
 from lokwurmi_tools.runs.jobs_in_run import read_trace, schedule_in
 from lokwurmi_tools.search.trace_plans import NONE, TracePlan, Turn, rows_of
@@ -195,7 +196,7 @@ def told(search: ChainSearch, late: Late, to: str | None) -> str:
     jobs = ",".join(f"{name}:{k + 1}" for name, k in zip(search.tasks, late.jobs))
     text = f"chain {chain} {search.what} seen {seen} bound {of}\n"
     text += f"late {search.what} from {late.since} to {late.until} jobs {jobs}"
-    return text + (f" trace {to}" if to else "")
+    return text + (f" trace {printable(to)}" if to else "")
 
 
 def perform_chain(options: WorstOptions, folder: str) -> int:

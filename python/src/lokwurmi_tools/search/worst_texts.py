@@ -10,6 +10,7 @@ from fractions import Fraction
 from lokwurmi.errors import LokwurmiError
 from lokwurmi.files.traces import write
 from lokwurmi.model.view import SystemView
+from lokwurmi.refusals.remark import printable
 from lokwurmi_tools.runs.jobs_in_run import passages_in
 from lokwurmi_tools.search.trace_plans import rows_of
 from lokwurmi_tools.search.worst_effect_chain import perform_chain
@@ -55,7 +56,7 @@ def tell_late(judge: Judge, rows: list[str], targets: Iterable[Target], trace: s
     """A line for each target that a trace shows: which job is late there, and when."""
     events, jobs = judge.jobs(rows)
     for target in targets:
-        say(f"late {late_in(judge.view, events, jobs, target)}" + (f" trace {trace}" if trace else ""))
+        say(f"late {late_in(judge.view, events, jobs, target)}" + (f" trace {printable(trace)}" if trace else ""))
 
 
 def line(what: Target, seen: int, bound: int | None) -> str:

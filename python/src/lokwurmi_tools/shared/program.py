@@ -8,6 +8,7 @@ from collections.abc import Mapping
 from pathlib import Path
 from typing import NoReturn
 
+from lokwurmi.refusals.remark import printable
 from lokwurmi_tools.shared.faults import Fault, Told
 
 # the folder of the repository, where this package lies in one
@@ -51,11 +52,11 @@ def end_refused(status: int, text: str, *words: str, names: Mapping[str, str] | 
     files were given of which copies were read."""
     from lokwurmi_tools.shared.system_file import told_of
 
-    line = text.strip().split("\n", 1)[0]
-    told = f"lokwurmi {shlex.join(words)}: status {status}: {line or 'nothing is written'}\n"
+    line = text.strip().split("\n", 1)[0] or "nothing is written"
+    told = printable(f"lokwurmi {shlex.join(words)}: status {status}: {line}") + "\n"
     told += told_of(status, line, *words) or 'docs/FILES.md, "Statuses", tells what to do\n'
     for copy, name in (names or {}).items():
-        told = told.replace(copy, name)
+        told = told.replace(copy, printable(name))
     sys.stderr.write(told)
     raise Told(status)
 
