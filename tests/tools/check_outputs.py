@@ -9,9 +9,12 @@ whole afterwards. An option that stands twice is refused, since of two the first
 """
 import argparse
 import os
+import resource
 import shutil
+import signal
 import subprocess
 import tempfile
+import time
 
 from tests.support.calls import TOP, built, hold, tell, tool, written
 
@@ -52,6 +55,12 @@ FOLDER = (
     "worst {0} b --to {1} --tries 2",
     "worst {0} --all --keep {0} --tries 2",
 )
+# calls that write more into a file than a full disk takes, in the tests
+LONG = (
+    "graph {0} --to TO.svg",
+    "curve examples/pedal.toml examples/pedal.report.txt sample --to TO.svg",
+    "ticks {0} --tick 1us --to TO.toml",
+)
 # options that concern nothing, or name nothing; a classical frame has no data phase, which would make it shorter
 NOTHING = {
     "lengths can 8 --bitrate 500000 --data-bitrate 2000000": "--data-bitrate concerns nothing of can",
@@ -67,7 +76,7 @@ TWICE = ("graph {0} --to a.svg --to b.svg", "verdict {0} --tick 1us --tick 2us",
 def asked(call, program, *names):
     """The words of a call, with the program where it takes one."""
     words = call.format(*names).split()
-    needs = words[0] not in (*WITHOUT, "ticks", "page") and "--help" not in words
+    needs = words[0] not in (*WITHOUT, "curve", "ticks", "page") and "--help" not in words
     return [*tool(words[0]), *words[1:], *(["--program", program] if needs else [])]
 
 
@@ -79,6 +88,11 @@ def ended(words, **more):
 
 def close_output():
     os.close(1)
+
+
+def fill_disk():
+    """Leaves room for so many bytes in each file."""
+    resource.setrlimit(resource.RLIMIT_FSIZE, (100, 100))
 
 
 def check_outputs(program, file):
@@ -122,6 +136,33 @@ def check_refused(program, file, room):
         hold(status in (2, 10) and "stands twice" in said, f"{call}: {status} {said}")
 
 
+def check_whole(program, file, room):
+    """Where a disk is full there is no part of a file under its name."""
+    for call in LONG:
+        end = os.path.splitext(call)[1]
+        to = os.path.join(room, f"to{end}")
+        words = [it.replace("TO" + end, to) for it in asked(call, program, file)]
+        status, said = ended(words, stdout=subprocess.DEVNULL, preexec_fn=fill_disk)
+        hold(status == 1 and "can't be written" in said, f"{call}: {status} {said}")
+        hold(not os.path.exists(to), f"{call}: a part is left")
+
+
+def check_signals(program, room):
+    """A command that a signal ends says so, and leaves no temporary file; nor does it end by one that is ignored."""
+    for number in (signal.SIGINT, signal.SIGTERM, signal.SIGHUP):
+        folder = tempfile.mkdtemp(dir=room)
+        words = asked("sensitivity examples/car_network.toml", program)
+        more = {"stdout": subprocess.DEVNULL, "stderr": subprocess.PIPE, "cwd": TOP, "text": True}
+        with subprocess.Popen(words, env=os.environ | {"TMPDIR": folder}, **more) as it:
+            while not os.listdir(folder) and it.poll() is None:
+                time.sleep(0.05)
+            it.send_signal(number)
+            said = it.communicate()[1]
+        ends = 130 if number == signal.SIGINT else -number
+        hold(it.returncode == ends and said.endswith("interrupted\n"), f"{number}: {it.returncode} {said}")
+        hold(not os.listdir(folder), f"{number}: left: {os.listdir(folder)}")
+
+
 def main():
     reader = argparse.ArgumentParser(description=__doc__, formatter_class=argparse.RawDescriptionHelpFormatter)
     reader.add_argument("--program", default=built("cpa_cli"), help="the built one if absent")
@@ -132,6 +173,8 @@ def main():
         check_outputs(program, file)
         check_same(program, room)
         check_refused(program, file, room)
+        check_whole(program, file, room)
+        check_signals(program, room)
     tell()
 
 

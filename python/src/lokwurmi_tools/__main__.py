@@ -76,8 +76,10 @@ def run(words: list[str]) -> int:
         return status if status > 0 else 1
     except Missing as fault:
         return go_on(command.name, fault, words)
-    except KeyboardInterrupt:
+    except KeyboardInterrupt as end:
         print(f"lokwurmi {command.name}: interrupted", file=sys.stderr)
+        if end.args:
+            end_by(end.args[0])
         return 130
 
 
@@ -107,7 +109,16 @@ def perform(words: list[str]) -> int:
     return status
 
 
+def interrupted(number: int, _: object) -> NoReturn:
+    """Ends a command by a signal once its temporary files are gone."""
+    raise KeyboardInterrupt(number)
+
+
 def main() -> NoReturn:
+    for it in (signal.SIGTERM, signal.SIGHUP):
+        # under nohup a signal is ignored
+        if signal.getsignal(it) is signal.SIG_DFL:
+            signal.signal(it, interrupted)
     sys.exit(perform(sys.argv[1:]))
 
 

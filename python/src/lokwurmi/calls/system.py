@@ -10,6 +10,7 @@ from lokwurmi.calls.texts import WHILE_RUNNING
 from lokwurmi.errors import ChainsRefused, LokwurmiError, Refused, SystemRefused, UnitsRefused, WordsRefused, WrongType
 from lokwurmi.files.chain_files import written
 from lokwurmi.files.system_files import entries_in, head_of, system_text
+from lokwurmi.files.whole_files import write_whole
 from lokwurmi.model.conversion import NoticeWarning, Rounding, warn
 from lokwurmi.model.entries import Chain, Resource, Task
 from lokwurmi.model.named_entries import NamedEntries, listed, name_of, names_of
@@ -88,7 +89,7 @@ class System(NamedEntries):
 
     def to_file(self, file: str | os.PathLike[str]) -> None:
         """Writes the system file."""
-        path_of(file).write_text(self.to_toml(), encoding="utf-8")
+        write_whole(path_of(file), self.to_toml().encode("utf-8"))
 
     @classmethod
     def from_toml(cls, text: str, tick: "Time | str | None" = None) -> "System":

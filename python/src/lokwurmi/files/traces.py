@@ -4,6 +4,7 @@ from collections.abc import Callable, Collection, Iterable, Iterator
 
 from lokwurmi.errors import Unreadable
 from lokwurmi.files.text_files import File
+from lokwurmi.files.whole_files import write_whole
 from lokwurmi.refusals import schedule, trace
 from lokwurmi.refusals.rows import Fault, Row, rows_in
 from lokwurmi.refusals.sentences import sentence
@@ -65,7 +66,6 @@ def trace_in(text: str, file: str) -> Trace:
 def write(file: str, rows: Iterable[str]) -> None:
     """Writes rows into a file."""
     try:
-        with open(file, "w", encoding="ascii") as it:
-            it.write("".join(row + "\n" for row in rows))
+        write_whole(file, "".join(row + "\n" for row in rows).encode("ascii"))
     except OSError as fault:
         raise Unreadable(f"{file}: can't be written: {fault.strerror}") from fault

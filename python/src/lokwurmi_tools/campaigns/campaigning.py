@@ -1,10 +1,8 @@
 """Runs a campaign, and says what went wrong with it: for lokwurmi campaign."""
 import hashlib
 import os
-import signal
 import subprocess
 import sys
-from types import FrameType
 
 from lokwurmi_tools.campaigns.campaign_faults import CallRefused, Failed, Wrong, say
 from lokwurmi_tools.campaigns.campaign_options import CampaignOptions, HammerOptions, VariantOptions
@@ -51,14 +49,8 @@ def perform(options: CampaignOptions, kept: KeptAnswers) -> int:
         return 130
 
 
-def interrupted(number: int, frame: FrameType | None) -> None:
-    raise KeyboardInterrupt
-
-
 def run_campaign(options: CampaignOptions) -> int:
     """Runs a campaign; its status."""
-    for it in (signal.SIGTERM, signal.SIGHUP):
-        signal.signal(it, interrupted)
     try:
         if not os.access(options.program, os.X_OK):
             raise Wrong(f"{options.program} isn't built yet: call ./lokwurmi analyse examples/two_tasks.toml first")

@@ -1,7 +1,9 @@
 """Matplotlib for the commands that draw: how a picture begins, looks and is saved."""
+import io
 import os
 from typing import Any
 
+from lokwurmi.files.whole_files import write_whole
 from lokwurmi.results.axes import bare, legend_above
 from lokwurmi_tools.shared.faults import Fault
 
@@ -48,7 +50,9 @@ def closed(figure: Any) -> None:
 
 def save(figure: Any, picture: str) -> None:
     """Writes a picture, without the date."""
+    drawn, form = io.BytesIO(), picture[-3:]
+    figure.savefig(drawn, format=form, metadata={"Date": None} if form == "svg" else None)
     try:
-        figure.savefig(picture, metadata={"Date": None} if picture.endswith(".svg") else None)
+        write_whole(picture, drawn.getvalue())
     except OSError as fault:
         raise Fault(f"{picture}: can't be written: {fault.strerror or fault}") from fault

@@ -7,6 +7,7 @@ from collections.abc import Mapping, Sequence
 from dataclasses import dataclass
 from fractions import Fraction
 
+from lokwurmi.files.whole_files import write_whole
 from lokwurmi.model.entries import Chain
 from lokwurmi.model.limits import Kind
 from lokwurmi.model.view import PathRow, ResourceRow, SourceRow, SystemView, TaskRow
@@ -198,7 +199,6 @@ def draw_graph(options: GraphOptions) -> None:
     check_name(options.to)
     picture = drawn_by_dot(text, os.path.splitext(options.to)[1][1:])
     try:
-        with open(options.to, "wb") as it:
-            it.write(picture)
+        write_whole(options.to, picture)
     except OSError as fault:
         raise Fault(f"{options.to}: can't be written: {fault.strerror}") from fault

@@ -5,6 +5,7 @@ from collections.abc import Iterable
 from typing import Any
 
 from lokwurmi.files.toml_text import value_text
+from lokwurmi.files.whole_files import write_whole
 from lokwurmi_tools.shared.faults import Fault
 
 # how long a line of a comment may be
@@ -52,8 +53,7 @@ def put(text: str, file: str | None) -> None:
         sys.stdout.write(text)
         return
     try:
-        with open(file, "w", encoding="utf-8") as it:
-            it.write(text)
+        write_whole(file, text.encode("utf-8"))
     except BrokenPipeError:
         # the file is a pipe, whose reader has enough of it
         raise
