@@ -183,7 +183,14 @@ class Kept(unittest.TestCase):
             )
             self.assertEqual({it.category for it in told}, {RoundingWarning})
             self.assertEqual(session.report().tasks["a"].time("period"), us(1990))
-            self.assertEqual([str(it) for it in session.report().roundings], [str(it.message) for it in told])
+            before = session.report().roundings
+            self.assertEqual([str(it) for it in before], [str(it.message) for it in told])
+            # an edit that is refused leaves no rounding, and one that is made has its own alone
+            self.assertRaises(EditRefused, session.exec, "a", best=us(5000), worst=us(15))
+            self.assertEqual(session.report().roundings, before)
+            session.exec("a", worst=us(65))
+            self.assertEqual([(it.key, it.ticks) for it in session.roundings][-1], ("worst", 7))
+            self.assertEqual(len(session.roundings), len(before))
         with two_tasks().session() as session:
             self.assertRaises(NoTick, session.exec, "b", worst=us(5))
 

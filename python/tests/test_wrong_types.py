@@ -5,7 +5,19 @@ from typing import Any
 
 from engine_for_tests import need_engine
 
-from lokwurmi import Chain, LokwurmiError, System, Task, WrongType, use
+from lokwurmi import (
+    Chain,
+    LokwurmiError,
+    NameRefused,
+    Program,
+    System,
+    Task,
+    WordsRefused,
+    WrongType,
+    generated_system,
+    use,
+)
+from lokwurmi.calls.engines import default_engine
 
 OTHERS: tuple[Any, ...] = (5, True, b"a", object(), ["a"])
 
@@ -60,6 +72,28 @@ class WrongTypes(unittest.TestCase):
             self.refused(lambda: use(it), f"{it!r} is no engine")
         with self.assertRaisesRegex(LokwurmiError, "there is no task 'z': the tasks are a"):
             small().execution("z")
+
+    def test_numbers_and_texts(self) -> None:
+        """What no word, no row and no system file can have; the library would take a text for a pointer."""
+        for it in (None, True, "1", 1.0):
+            self.refused(lambda: small().hammer(it, 1), f"a seed is a whole number, and not {it!r}")
+            self.refused(lambda: small().hammer(1, it), "the number of traces is a whole number")
+            self.refused(lambda: generated_system(1, it), "a size is a whole number")
+        for row in (("event", "s,1\nevent", "s"), ("event", "s\n", 1)):
+            self.refused(lambda: small().simulate([row]), "neither a comma nor a line end")
+        half = "\ud800"
+        for call in (small().slack, small().simulate, small().chains, small().session):
+            self.refused(lambda: call(half), "half of a pair")
+        system = small()
+        system.preemptive(half)
+        self.refused(system.analyse, "half of a pair")
+        with self.assertRaises(WordsRefused if isinstance(default_engine(), Program) else NameRefused):
+            small().slack("\0")
+        for number in (2**63, -(10**5000)):
+            system = small()
+            system.tasks["a"].worst = number
+            with self.assertRaisesRegex(LokwurmiError, "^'a': a number of .* bits is no value of a system file"):
+                system.analyse()
 
     def test_classes_below(self) -> None:
         """An entry of a class below one of the four is one of these."""

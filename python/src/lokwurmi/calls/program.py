@@ -6,9 +6,10 @@ import tempfile
 from collections.abc import Sequence
 from pathlib import Path
 
-from lokwurmi.calls.texts import text_of
+from lokwurmi.calls.texts import bytes_of, text_of
 from lokwurmi.errors import NoEngine
 from lokwurmi.model.commands import FILES
+from lokwurmi.model.statuses import Status
 
 TOP = Path(__file__).resolve().parents[4]
 """The repository, where the package is used from there."""
@@ -38,12 +39,15 @@ class Program:
                 Path(folder, name).write_bytes(text)
             try:
                 done = subprocess.run(
-                    [self.file, command, *FILES[command], *map(str, words)],
+                    [self.file, command, *FILES[command], *(bytes_of(str(it)) for it in words)],
                     cwd=folder,
                     stdout=subprocess.PIPE,
                     check=False,
                     env=os.environ | {"LOKWURMI_QUIET": "1"},
                 )
-            except (OSError, ValueError) as fault:
+            except ValueError:
+                # a word with a byte 0 is none
+                return Status.WORDS_REFUSED, "words refused\n"
+            except OSError as fault:
                 raise NoEngine(f"{self.file}: can't be called: {fault}") from fault
         return done.returncode, text_of(done.stdout)

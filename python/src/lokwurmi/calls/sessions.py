@@ -1,6 +1,6 @@
 """A system under edits whose bounds are kept between them: what an edit can't reach isn't analysed again."""
 import threading
-from collections.abc import Mapping
+from collections.abc import Mapping, Sequence
 from types import MappingProxyType, TracebackType
 from typing import TYPE_CHECKING, Any
 
@@ -92,7 +92,8 @@ class Session:
         with self._lock:
             self._edit(line)
 
-    def _edit(self, line: str) -> None:
+    def _edit(self, line: str, told: Sequence[Rounding] = ()) -> None:
+        """Makes an edit, for which so much was rounded."""
         status, text = self._open().edit(line)
         if status == Status.EDIT_REFUSED and (found := REFUSED.fullmatch(text.rstrip("\n"))):
             raise self._refused(line, int(found[2]))
@@ -103,14 +104,16 @@ class Session:
         self._found = None
         edit = next(it for it in line.split("\n") if it.strip(" \t\r") and not it.lstrip(" \t").startswith("#"))
         _apply(self._system, edit.split())
+        anew = {(it.what, it.key) for it in told}
+        self._roundings = [it for it in self._roundings if (it.what, it.key) not in anew] + list(told)
 
     def _refused(self, line: str, rule: int, shown: str = "") -> EditRefused:
         """The refusal of an edit, in words."""
         why = edit_words(line, rule, self._system._file()[0])
         return EditRefused(shown or line.strip(), rule, why)
 
-    def _ticks(self, kind: str, name: str, **given: Ticks | str | None) -> dict[str, Any]:
-        """Times of an entry in ticks, rounded and reported as those of a system."""
+    def _ticks(self, kind: str, name: str, **given: Ticks | str | None) -> tuple[dict[str, Any], list[Rounding]]:
+        """Times of an entry in ticks, rounded and told as those of a system; and what was rounded."""
         entry: dict[str, Any] = {"name": name} | {key: it for key, it in given.items() if it is not None}
         if kind == "task" and "on" not in entry and name in self._system.tasks:
             task = self._system.tasks[name]
@@ -118,10 +121,8 @@ class Session:
             # an execution that one of them covers has a tick more
             entry |= {key: self._system.ticks(task, key) for key in ("region", "locks") if getattr(task, key)}
         told = self._system._convert(kind, entry)
-        if told:
-            self._roundings += told
-            warn(told)
-        return entry
+        warn(told)
+        return entry, told
 
     def _known(self, form: str, it: "str | Task | Source", part: Mapping[str, Any]) -> str:
         """The name of an entry that is there. What stays of one that isn't is unknown here, so that such an edit isn't
@@ -138,8 +139,8 @@ class Session:
         with self._lock:
             name = self._known("exec", task, self._system.tasks)
             before = self._system.execution(name)
-            found = self._ticks("task", name, best=best, worst=worst)
-            self._edit(f"exec {name} {found.get('best', before[0])} {found.get('worst', before[1])}")
+            found, told = self._ticks("task", name, best=best, worst=worst)
+            self._edit(f"exec {name} {found.get('best', before[0])} {found.get('worst', before[1])}", told)
 
     def priority(self, task: str | Task, priority: int) -> None:
         """Sets the priority of a task on a preemptive, can or ceiling resource."""
@@ -153,7 +154,8 @@ class Session:
         """Sets the slot of a task on a round-robin or tdma resource, in ticks or as a time that is whole ticks."""
         with self._lock:
             name = _named(task)
-            self._edit(f"slot {name} {self._ticks('task', name, slot=slot)['slot']}")
+            found, told = self._ticks("task", name, slot=slot)
+            self._edit(f"slot {name} {found['slot']}", told)
 
     def source(
         self,
@@ -170,8 +172,9 @@ class Session:
             stays |= {key: it for key in stays if (it := self._system.ticks(there, key)) is not None}
             # a jitter has what the offset was rounded down by in it
             on = {"clock": there.clock, "offset": None if jitter is None else there.offset}
-            found = stays | self._ticks("source", name, period=period, jitter=jitter, distance=distance, **on)
-            self._edit(f"source {name} {found['period']} {found['jitter']} {found['distance']}")
+            given, told = self._ticks("source", name, period=period, jitter=jitter, distance=distance, **on)
+            found = stays | given
+            self._edit(f"source {name} {found['period']} {found['jitter']} {found['distance']}", told)
 
     def offset(self, source: str | Source, offset: Ticks) -> None:
         """Sets how long after the start of its clock the first event of a source comes, in ticks or as a time that is
@@ -204,9 +207,9 @@ class Session:
                 f"add {name}: a task that is added comes after one source or task, and not after a list"
             )
         with self._lock:
-            found = self._ticks("task", name, on=_named(on), best=best, worst=worst, slot=slot)
+            found, told = self._ticks("task", name, on=_named(on), best=best, worst=worst, slot=slot)
             number = self._turn(name, _named(on), {"priority": priority, "slot": found.get("slot")})
-            self._edit(f"add {name} {_named(on)} {_named(after)} {found['best']} {found['worst']} {number}")
+            self._edit(f"add {name} {_named(on)} {_named(after)} {found['best']} {found['worst']} {number}", told)
 
     def _turn(self, name: str, on: str, given: Mapping[str, int | None]) -> int:
         """The number of a task that is added: its priority or its slot, whichever its resource wants."""

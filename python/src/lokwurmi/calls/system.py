@@ -1,12 +1,14 @@
 """Systems that are read, written and analysed."""
+import operator
 import os
+import re
 import tomllib
 from collections.abc import Iterable
 from pathlib import Path as FilePath
-from typing import TYPE_CHECKING, Any, overload
+from typing import TYPE_CHECKING, Any, SupportsIndex, overload
 
 from lokwurmi.calls.engines import Engine, KeptSession, answer, keep
-from lokwurmi.calls.texts import WHILE_RUNNING
+from lokwurmi.calls.texts import WHILE_RUNNING, bytes_of
 from lokwurmi.errors import ChainsRefused, LokwurmiError, Refused, SystemRefused, UnitsRefused, WordsRefused, WrongType
 from lokwurmi.files.chain_files import written
 from lokwurmi.files.system_files import entries_in, head_of, system_text
@@ -38,6 +40,13 @@ def path_of(file: str | os.PathLike[str]) -> FilePath:
     if not isinstance(file, (str, os.PathLike)):
         raise WrongType(f"{file!r} is no name of a file: write a text or a Path")
     return FilePath(file)
+
+
+def number_of(it: SupportsIndex, what: str) -> int:
+    """A number that is a word of a call."""
+    if isinstance(it, bool) or not hasattr(it, "__index__"):
+        raise WrongType(f"{what} is a whole number, and not {it!r}")
+    return operator.index(it)
 
 
 class System(NamedEntries):
@@ -153,7 +162,7 @@ class System(NamedEntries):
         self._warn(told)
         several = list(texts)
         try:
-            files = [it.encode("utf-8", "surrogateescape") for it in (text, *several)]
+            files = [bytes_of(it) for it in (text, *several)]
             found = answer(command, files, words, engine)[1]
         except SystemRefused as fault:
             raise self._named(fault, text) from None
@@ -177,7 +186,10 @@ class System(NamedEntries):
         rows = [
             [whole_ticks(one, self._tick, "a row") if isinstance(one, Time) else one for one in row] for row in several
         ]
-        return "".join(",".join(map(str, row)) + "\n" for row in rows)
+        fields = [[str(one) for one in row] for row in rows]
+        if bad := next((one for row in fields for one in row if re.search("[,\r\n]", one)), None):
+            raise WrongType(f"a field of a row has neither a comma nor a line end, and {bad!r} has one")
+        return "".join(",".join(row) + "\n" for row in fields)
 
     def analyse(self, *, engine: Engine | None = None) -> reports.Report:
         """The bounds of all tasks and paths, in ticks; `time` of each gives them as times.
@@ -240,7 +252,7 @@ class System(NamedEntries):
         text, told = self._file()
         self._warn(told)
         try:
-            kept = keep(text.encode("utf-8", "surrogateescape"), engine)
+            kept = keep(bytes_of(text), engine)
         except SystemRefused as fault:
             raise self._named(fault, text) from None
         self._notice(text)
@@ -266,7 +278,11 @@ class System(NamedEntries):
 
     def hammer(self, seed: int, traces: int, *, engine: Engine | None = None) -> reports.Hammered:
         """What is seen under so many traces that are generated from a seed."""
-        return reports.hammered(self._answer("hammer", words=(seed, traces), engine=engine))
+        return reports.hammered(
+            self._answer(
+                "hammer", words=(number_of(seed, "a seed"), number_of(traces, "the number of traces")), engine=engine
+            )
+        )
 
     def assign(self, resource: str | Resource, *, engine: Engine | None = None) -> reports.Order | None:
         """Priorities of the tasks of a resource under which each meets its deadline, from the highest to the lowest;
@@ -337,7 +353,7 @@ class System(NamedEntries):
 
 def generated_system(seed: int, size: int, *, engine: Engine | None = None) -> System:
     """The system that `generate SEED SIZE` writes: so many chains, drawn from a seed."""
-    return System.from_toml(answer("generate", [], (seed, size), engine)[1])
+    return System.from_toml(answer("generate", [], (number_of(seed, "a seed"), number_of(size, "a size")), engine)[1])
 
 
 made_system = generated_system
