@@ -4,6 +4,8 @@ import tomllib
 import unittest
 from pathlib import Path
 
+from engine_for_tests import need_engine
+
 from lokwurmi import LokwurmiError, System
 from lokwurmi.files.chain_files import chains_in
 from lokwurmi.files.documents import Document
@@ -55,7 +57,16 @@ class Documents(unittest.TestCase):
             file = Path(folder, "system.toml")
             file.write_bytes(NEWER.replace("\n", "\r\n").encode())
             self.assertEqual(System.from_file(file), system)
+            # a carriage return alone ends no line, so that what follows it would be a comment here and a key there
+            file.write_bytes(NEWER.replace("\n", "\r").encode())
+            with self.assertRaisesRegex(LokwurmiError, "isn't TOML"):
+                System.from_file(file)
+        self.assertEqual(System.from_toml(NEWER.replace("\n", "\r\n")), system)
         chain = chains_in('format = 1\nchain = [{ name = "c",\n tasks = ["a"], }]\n', ["a"])[0]
         self.assertEqual((chain.name, chain.tasks), ("c", ["a"]))
+        need_engine()
+        timed = System.from_toml(NEWER, tick="1us")
+        chains = '\ufeffformat = 1\r\nchain = [{ name = "c",\r\n tasks = ["a"], }]\r\n'
+        self.assertEqual(timed.chains(chains).chains["c"].name, "c")
         with self.assertRaisesRegex(LokwurmiError, "isn't TOML"):
             System.from_toml("format = 1\nresource = [{ name = }]\n")

@@ -2,7 +2,6 @@
 import operator
 import os
 import re
-import tomllib
 from collections.abc import Iterable
 from pathlib import Path as FilePath
 from typing import TYPE_CHECKING, Any, SupportsIndex, overload
@@ -11,6 +10,7 @@ from lokwurmi.calls.engines import Engine, KeptSession, answer, keep
 from lokwurmi.calls.texts import WHILE_RUNNING, bytes_of
 from lokwurmi.errors import ChainsRefused, LokwurmiError, Refused, SystemRefused, UnitsRefused, WordsRefused, WrongType
 from lokwurmi.files.chain_files import written
+from lokwurmi.files.documents import Document
 from lokwurmi.files.system_files import entries_in, head_of, system_text
 from lokwurmi.files.whole_files import write_whole
 from lokwurmi.model.conversion import NoticeWarning, Rounding, warn
@@ -122,7 +122,8 @@ class System(NamedEntries):
         """The system of a system file; with a tick, its times may have units."""
         path = path_of(file)
         try:
-            return cls.from_toml(path.read_text(encoding="utf-8"), tick)
+            # line ends as they are: a carriage return alone is none in TOML
+            return cls.from_toml(path.read_bytes().decode("utf-8"), tick)
         except UnicodeDecodeError as fault:
             raise LokwurmiError(f"{file}: it isn't UTF-8: {fault.reason} at byte {fault.start}") from fault
         except LokwurmiError as fault:
@@ -347,7 +348,7 @@ class System(NamedEntries):
             raise refused from None
         if self._tick is None:
             return found
-        tasks = {it["name"]: it["tasks"] for it in tomllib.loads(text).get("chain", [])}
+        tasks = {it["name"]: it["tasks"] for it in Document(text.replace("\r\n", "\n"), ["chain"]).entries["chain"]}
         return chain_results.judged_between_ticks(found, tasks, {it.name: it.after for it in self.tasks.values()})
 
 

@@ -44,7 +44,7 @@ def entries_in(text: str, has_units: bool) -> tuple[dict[str, dict[str, Entry]],
     from lokwurmi.refusals.sentences import placed
 
     try:
-        document = Document(text)
+        document = Document(text.replace("\r\n", "\n"))
     except tomllib.TOMLDecodeError as fault:
         raise LokwurmiError(f"the text isn't TOML: {fault}") from fault
     if remark := first_misshapen(document, has_units):
