@@ -51,6 +51,25 @@ class Main(unittest.TestCase):
         )
         self.assertEqual((done.returncode, done.stdout), (0, (EXAMPLES / "pycpa_first.report.txt").read_text()))
 
+    def test_outputs(self) -> None:
+        """An output that is full or closed has the status of the program, and none that says something of bounds."""
+        need_engine()
+        import os
+
+        words = [sys.executable, "-m", "lokwurmi", str(EXAMPLES / "pycpa_first.toml")]
+        for end in (">/dev/full", ">&-"):
+            call = ["sh", "-c", f'exec "$@" {end}', "sh", *words]
+            done = subprocess.run(call, stderr=subprocess.PIPE, env=os.environ | {"PYTHONPATH": str(SRC)}, text=True)
+            self.assertEqual((done.returncode, done.stderr), (20, "the output can't be written\n"))
+
+    def test_no_toml(self) -> None:
+        need_engine()
+        with tempfile.TemporaryDirectory() as folder:
+            file = Path(folder, "net.toml")
+            file.write_bytes(b"\xef\xbb\xbfformat = 1\r\nsource = x\r\n")
+            says = f'{file}: the system file isn\'t TOML: line 2: `x` is no value: a text stands in quotes: write "x"\n'
+            self.assertEqual(self.call(file), (13, f"not TOML {file}\n", says))
+
     def test_refusals(self) -> None:
         need_engine()
         with tempfile.TemporaryDirectory() as folder:

@@ -3,6 +3,7 @@
 The text and the status are those of `lokwurmi analyse FILE`. What is refused is said in words on standard error.
 """
 import argparse
+import os
 import signal
 import sys
 import warnings
@@ -77,12 +78,29 @@ def refused(status: int, wrote: str, text: bytes) -> LokwurmiError:
     """Why a file isn't accepted, in words."""
     fault = error_of(status, wrote)
     if not isinstance(fault, SystemRefused):
+        if why := refusal_words(wrote, text.decode("utf-8", "surrogateescape")):
+            fault.args = (f"{fault}: {why}",)
         return fault
     several = Document(text.decode("utf-8", "surrogateescape")).values.get(fault.part, [])
     it = several[fault.place - 1] if isinstance(several, list) and 1 <= fault.place <= len(several) else None
     entry = it if isinstance(it, dict) else {}
     what = refusal_words(wrote, text.decode("utf-8", "surrogateescape"))
     return SystemRefused(status, wrote, fault.reason, fault.part, fault.place, entry.get("name"), what)
+
+
+def is_written(text: str) -> bool:
+    """Writes the report; says so where that can't be done, as on a full disk."""
+    # a standard output that was closed is None
+    if sys.stdout is not None:
+        try:
+            sys.stdout.write(text)
+            sys.stdout.flush()
+            return True
+        except OSError:
+            # nothing is left for the end of the process to write
+            os.dup2(os.open(os.devnull, os.O_WRONLY), sys.stdout.fileno())
+    print("the output can't be written", file=sys.stderr)
+    return False
 
 
 def main(words: list[str] | None = None) -> int:
@@ -114,7 +132,8 @@ def main(words: list[str] | None = None) -> int:
     else:
         for it in notices_of(text.decode("utf-8", "surrogateescape").replace("\r\n", "\n")):
             print(f"{asked.file}: notice: {it}", file=sys.stderr)
-    sys.stdout.write(wrote)
+    if not is_written(wrote):
+        return Status.SINK_FAILED
     return status if status >= 0 else 128 - status
 
 

@@ -86,6 +86,16 @@ def notices_of_script(script: str, refused: Sequence[tuple[int, int]], system: s
     return [f"line {line}: {told.get((line, rule), plain.format(rule))}" for line, rule in refused]
 
 
+def _no_toml(file: "File") -> str:
+    """Why a text isn't TOML, with the line."""
+    from lokwurmi.files.text_files import File
+    from lokwurmi.refusals.toml_faults import fault_in
+
+    file = File(file.name, file.text.removeprefix("\ufeff").replace("\r\n", "\n"))
+    remark = fault_in(file)
+    return placed(file, remark) if remark else ""
+
+
 def refusal_words(line: str, system: str, texts: Sequence[str] = (), words: Sequence[str | int] = ()) -> str:
     """What there is to say of a line by which the program refused a call over a system and other texts; nothing where
     it isn't found here."""
@@ -101,6 +111,8 @@ def refusal_words(line: str, system: str, texts: Sequence[str] = (), words: Sequ
     files = [File("the text", it) for it in texts]
     if line.startswith("script refused ") and files:
         return _on(script.fault_in(files[0]), line)
+    if line.startswith("not TOML "):
+        return _no_toml(files[0] if line == "not TOML chains" else File("", system))
     try:
         document = Document(system)
     except (tomllib.TOMLDecodeError, RecursionError):
