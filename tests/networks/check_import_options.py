@@ -9,8 +9,8 @@ options. What a frame doesn't have, and what isn't read of one, is refused in wo
 """
 import os
 
-from tests.support.calls import hold, written
-from tests.support.databases import dumped, hold_refused, imported, matrix_of, run_checks, said_by
+from tests.support.calls import hold, run, written
+from tests.support.databases import PYTHON, dumped, hold_refused, imported, matrix_of, run_checks, said_by
 
 DBC = """VERSION ""
 BU_: Gate Motor
@@ -210,6 +210,13 @@ def check_flexible(room):
     system, told, _ = imported(written(room, "slow.dbc", text), "--bitrate", 500000, *LEAVE)
     tasks = {it["name"]: it for it in system["task"]}
     hold((tasks["Flexible"]["best"], tasks["Flexible"]["worst"]) == (252, 296), f"one bit rate: {tasks['Flexible']}")
+    # of CAN FD by the default of the database: 29 to 34 bits of 2 us, and 33 + 64 to 34 + 80 of half a us
+    text = (DBC % "0").replace('"VFrameFormat" "StandardCAN"', '"VFrameFormat" "StandardCAN_FD"')
+    system, told, _ = imported(written(room, "all.dbc", text), *RATES, *LEAVE[:2])
+    tasks = {it["name"]: it for it in system["task"]}
+    hold((tasks["Speed"].get("best"), tasks["Speed"].get("worst")) == (106, 125), f"a default: {tasks['Speed']}")
+    hold("of CAN FD by the default of VFrameFormat: Speed, Extras" in told, f"a default: {told}")
+    hold("as no CANFD_BRS tells whether it does: Speed, Extras" in told, f"no CANFD_BRS: {told}")
     told = said_by("import network", written(room, "car.dbc", DBC % "0"), "--bitrate", 500000, *LEAVE)
     hold("Flexible: it is a frame of CAN FD, and the bit rate of the data phase isn't told" in told, told)
 
@@ -345,6 +352,56 @@ def check_unread_elsewhere(room):
     # a DBC file has attributes by identifiers, so that b has the cycle time
     system = imported(file, "--bitrate", 500000, "--without", "a")[0]
     hold([it["name"] for it in system.get("task", [])] == ["b", "c"], "one_same.dbc without a")
+
+
+SYMBOLS = """FormatVersion=6.0
+{SENDRECEIVE}
+[a]
+ID=00000064h
+Type=FDExtended
+Len=8
+CycleTime=10
+[b]
+ID=065h
+Type=fdstandard
+Len=8
+CycleTime=10
+[c]
+ID=00000066h
+Type = extended
+Len=8
+CycleTime=10
+"""
+MESSAGES = """{"messages": [
+{"name": "a", "id": 100, "length": 8, "is_fd": true, "is_extended_frame": true, "signals": [],
+ "attributes": {"GenMsgCycleTime": "10", "GenMsgDelayTime": null}},
+{"name": "b", "id": 101, "length": 8, "is_fd": true, "signals": [], "attributes": {"GenMsgCycleTime": "10"}},
+{"name": "c", "id": 102, "length": 8, "is_extended_frame": true, "signals": [], "attributes": {"GenMsgCycleTime": 10}}
+]}"""
+
+
+def check_types(room):
+    """What canmatrix leaves out of SYM and JSON files: frames of CAN FD, 29 bits, cycle times, lengths that lack."""
+    for name, text in (("types.sym", SYMBOLS), ("types.json", MESSAGES)):
+        system, told, _ = imported(written(room, name, text), "--bitrate", 500000, "--data-bitrate", 500000)
+        found = {it["name"]: tuple(it.get(key) for key in ("best", "worst", "extended")) for it in system["task"]}
+        # in bits of 2 us: 48 + 33 + 64 to 57 + 34 + 80 with 29 bits, and 29 + 33 + 64 to 34 + 34 + 80 with 11
+        wanted = {"a": (290, 342, None), "b": (252, 296, None), "c": (None, None, True)}
+        hold(found == wanted and {it["period"] for it in system["source"]} == {10_000}, f"{name}: {found} {told}")
+    file = written(room, "short.json", MESSAGES.replace('"length": 8, "is_extended_frame"', '"is_extended_frame"'))
+    hold("message c has no length" in said_by("import network", file, "--bitrate", 500000), "short.json")
+
+
+def check_lacking(room):
+    """A sheet, where the package that reads it isn't here."""
+    none = os.path.join(room, "none")
+    os.makedirs(none)
+    written(none, "xlrd.py", "raise ImportError")
+    paths = os.pathsep.join((none, os.environ["PYTHONPATH"]))
+    for name in ("lacks.xls", "lacks.xlsx"):
+        file = dumped(room, name, matrix_of([("a", 1, False, 8, 10, {})]))
+        done = run("import network", file, "--bitrate", 500000, python=PYTHON, env={"PYTHONPATH": paths})
+        hold("the package xlrd isn't here: apt-get install python3-xlrd" in done.stderr, f"{name}: {done.stderr}")
 
 
 # statements of all kinds, as tools of Vector write them
@@ -483,6 +540,8 @@ if __name__ == "__main__":
         check_refused_files,
         check_unread,
         check_unread_elsewhere,
+        check_types,
+        check_lacking,
         check_wanted,
         check_vector,
     )

@@ -219,6 +219,45 @@ def check_whole(room):
     hold("x010: the database has no cycle time of it" in done.stderr, f"--period database: {done.stderr}")
 
 
+TRC = """;$FILEVERSION=2.1
+;$COLUMNS=N,O,T,B,I,d,R,L,D
+      1        10.000 DT 1      0010 Rx -  1    00
+      2        15.000 ST 1      -    Rx -  4    00 00 00 08
+      3        20.000 DT 1      0010 Rx -  1    00
+      4        30.000 DT 1      0010 Rx -  1    00
+"""
+OLD_TRC = """; no version
+     1)      10  0010  1  00
+     2)      15  FFFFFFFF  4  00 00 00 08
+     3)      20  0010  1  00
+     4)      30  0010  1  00
+"""
+CSV = """timestamp,arbitration_id,extended,remote,error,dlc,data
+1.01,0x10,0,0,0,1,AA==
+1.02,0x10,0,0,0,1,AA==
+1.03,0x10,0,0,0,1,AA==
+"""
+
+
+def check_passed_over(room):
+    """What python-can passes over in .trc and .csv files is refused; error frames of candump of each kind are none."""
+    for name, text in (("whole.trc", TRC), ("whole.csv", CSV), ("old.trc", OLD_TRC)):
+        done = called("import log", written(room, name, text))
+        hold('x010.seen", period = 10000' in done.stdout, f"{name}: {done.stdout} {done.stderr}")
+    cases = (
+        ("line 5: `3        20.000 FB 1", [written(room, "fd.trc", TRC.replace("20.000 DT", "20.000 FB"))]),
+        ("line 6: `4        30.000 RR 1", [written(room, "remote.trc", TRC.replace("30.000 DT", "30.000 RR"))]),
+        ("line 1: `;$FILEVERSION=2.0`", [written(room, "new.trc", TRC.replace("2.1", "2.0"))]),
+        ("line 2: `;$COLUMNS=N,O,T,I,d,l,D`", [written(room, "columns.trc", TRC.replace("B,I,d,R,L", "I,d,l"))]),
+        ("line 1: `1.01,0x10,0,0,0,1,AA==`", [written(room, "head.csv", CSV.split("\n", 1)[1])]),
+    )
+    hold_refused("import log", cases)
+    # the kinds of linux/can/error.h: of the controller, of the bus, and both; 4, 0x80 and 0x84
+    rows = [f"(1.0{at}0000) can0 {it}" for at, it in enumerate(("010#00", "20000004#00", "20000080#00", "20000084#00"))]
+    done = called("import log", written(room, "errors.log", "\n".join([*rows, "(1.100000) can0 010#00"])))
+    hold("3 error frames" in done.stderr and "x00000004" not in done.stdout, f"{done.stdout} {done.stderr}")
+
+
 def check_can_utils(room):
     """Logs as log2asc of can-utils writes them, which is neither this project's nor python-can's."""
     if not shutil.which("log2asc"):
@@ -261,6 +300,7 @@ if __name__ == "__main__":
         check_refused_logs,
         check_names,
         check_whole,
+        check_passed_over,
         check_can_utils,
     )
     run_checks(__doc__, checks)

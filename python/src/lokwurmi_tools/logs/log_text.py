@@ -1,5 +1,6 @@
 """Reads the lines of a recorded log beside python-can, for lokwurmi import log: it passes over a line of an .asc file
-that it can't read, and takes much for a line of candump that is none."""
+that it can't read, over frames of CAN FD in a .trc file and the first line of a .csv file, and takes much for a line of
+candump that is none."""
 import gzip
 import os
 import re
@@ -26,6 +27,14 @@ _FRAME = re.compile(
 )
 _EVENT = re.compile(r"\d+\.\d+\s+(?:\d+\s+(?:Statistic:|OverloadFrame|J1939)|(?!CANFD\b)[A-Za-z]{2,})", re.I)
 _LOOKS = re.compile(r"\s(?:Rx|Tx|TxRq)\s+[dr]\b", re.I)
+# of a .trc file by its version: the kinds of lines that python-can reads as frames, all where there are none, and those
+# of what is no frame
+_TRC: dict[str, tuple[tuple[str, ...], tuple[str, ...]]] = {
+    "1.0": ((), ("FFFFFFFF",)),
+    "1.1": (("Rx", "Tx"), ("Warng", "Error")),
+    "2.1": (("DT",), ("ST", "EC", "ER", "EV")),
+}
+_TRC_COLUMNS = "N,O,T,B,I,d,R,L,D"
 
 
 def rows_of(file: str) -> Iterator[tuple[int, str]]:
@@ -68,13 +77,48 @@ def check_asc(file: str) -> int:
     return count
 
 
+def check_trc(file: str) -> int:
+    """Refuses a frame that python-can passes over, and a version that it doesn't know; how many frames there are."""
+    count, version = 0, "1.0"
+    for place, line in rows_of(file):
+        key, _, value = line.partition("=")
+        if key == ";$FILEVERSION":
+            version = value
+        if key == ";$FILEVERSION" and value not in _TRC or key == ";$COLUMNS" and value != _TRC_COLUMNS:
+            raise fault(file, place, line, f"of version 1.0, 1.1, or 2.1 with the columns {_TRC_COLUMNS}")
+        if not line or line.startswith(";"):
+            continue
+        kind = (line.split() + ["", "", ""])[2]
+        frames, others = _TRC[version]
+        if frames and kind not in (*frames, *others):
+            form = f"of a frame that python-can reads there ({', '.join(frames)}): write the log anew as .asc or .blf"
+            raise fault(file, place, line, form)
+        count += kind not in others
+    return count
+
+
+def check_csv(file: str) -> int:
+    """Refuses a file without the head that python-can passes over; how many frames there are."""
+    rows = [line for _, line in rows_of(file) if line]
+    if rows and not rows[0].startswith("timestamp,"):
+        raise fault(file, 1, rows[0], "with the head of python-can, timestamp,arbitration_id,extended,remote,error,..")
+    return max(0, len(rows) - 1)
+
+
+def errors_in(file: str) -> set[int]:
+    """Which of the lines of `candump -l` are error frames: python-can knows those of one kind alone."""
+    if not file.lower().removesuffix(".gz").endswith(".log"):
+        return set()
+    lines = (line for _, line in rows_of(file) if line)
+    return {number for number, line in enumerate(lines, 1) if re.match(r"\S+ \S+ 2[0-9A-F]{7}#", line, re.I)}
+
+
 def frames_in(file: str) -> int | None:
     """How many frames a log of lines has, or None of another format; a line that is none is refused."""
-    plain = file.lower().removesuffix(".gz")
+    ending = os.path.splitext(file.lower().removesuffix(".gz"))[1]
+    check = {".log": check_candump, ".asc": check_asc, ".trc": check_trc, ".csv": check_csv}.get(ending)
     try:
-        if plain.endswith(".log"):
-            return check_candump(file)
-        return check_asc(file) if plain.endswith(".asc") else None
+        return check(file) if check else None
     except (EOFError, gzip.BadGzipFile) as it:
         raise Fault(f"{file}: it is cut off, or not packed: {it}")
 

@@ -14,7 +14,7 @@ from itertools import pairwise, repeat
 from can.io.player import LogReader
 from can.message import Message
 
-from lokwurmi_tools.logs.log_text import check_read, frames_in
+from lokwurmi_tools.logs.log_text import check_read, errors_in, frames_in
 from lokwurmi_tools.shared.faults import Fault
 from lokwurmi_tools.shared.progress import Progress
 from lokwurmi_tools.shared.times import UNITS
@@ -72,7 +72,7 @@ def messages_in(file: str) -> Iterator[Message]:
     progress = Progress("lokwurmi import log")
     number = 0
     try:
-        wanted = frames_in(file)
+        wanted, errors = frames_in(file), errors_in(file)
         reader = LogReader(file)
         for number, message in enumerate(reader, 1):
             if getattr(reader, "timestamps_format", None) == "relative":
@@ -82,6 +82,7 @@ def messages_in(file: str) -> Iterator[Message]:
                 )
             if number % 50_000 == 0:
                 progress.show(f"{file}: {number} frames are read")
+            message.is_error_frame |= number in errors
             yield message
         check_read(file, reader, number, wanted)
     except Fault:

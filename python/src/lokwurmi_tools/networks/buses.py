@@ -11,8 +11,9 @@ from lokwurmi.model.limits import MOST_IN_NAME
 # for it in a gateway; and behind that of a bus in those of the tasks for its errors and for the frames that go behind
 # those that are asked for
 LONGEST, QUEUED, PASSED, ERRORS, BEHIND = MOST_IN_NAME, ".queued", ".passed", ".errors", ".behind"
-# the attributes of a DBC file that tell when a frame begins, and why it is sent
-START, SEND_TYPE = "GenMsgStartDelayTime", "GenMsgSendType"
+# the attributes of a DBC file that tell when a frame begins, why it is sent, whether it is one of CAN FD, and whether
+# that switches its bit rate
+START, SEND_TYPE, FORMAT, SWITCH = "GenMsgStartDelayTime", "GenMsgSendType", "VFrameFormat", "CANFD_BRS"
 # what a DBC file has in place of a sender where there is none
 NO_SENDER = "Vector__XXX"
 

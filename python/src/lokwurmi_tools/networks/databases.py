@@ -8,7 +8,20 @@ from fractions import Fraction
 from typing import Any, Collection, Iterable
 
 from lokwurmi_tools.networks.arxml_lines import SECONDS, TOO_LOW, ArxmlFrames, Triggered
-from lokwurmi_tools.networks.buses import BEHIND, ERRORS, LONGEST, QUEUED, SEND_TYPE, START, Bus, Frame, named, plain
+from lokwurmi_tools.networks.buses import (
+    BEHIND,
+    ERRORS,
+    FORMAT,
+    LONGEST,
+    QUEUED,
+    SEND_TYPE,
+    START,
+    SWITCH,
+    Bus,
+    Frame,
+    named,
+    plain,
+)
 from lokwurmi_tools.networks.unread import check_before, check_messages, check_text, ending_of
 from lokwurmi_tools.shared.faults import Fault
 from lokwurmi_tools.shared.packages import need
@@ -17,6 +30,8 @@ from lokwurmi_tools.shared.times import LEAST_RATE, UNITS
 
 # the attributes of a cycle time besides that of the period
 FASTER = ("GenMsgCycleTimeFast", "GenMsgCycleTimeActive")
+# the endings of spreadsheets
+SHEETS = (".xls", ".xlsx")
 # what canmatrix has to say goes into the report, and not past it
 SAID: list[str] = []
 
@@ -76,7 +91,7 @@ def cycle_of(frame: Any, matrix: Any) -> tuple[Fraction, str, bool]:
     told = time_in(frame.cycle_time, f"{frame.name}: its cycle time")
     exact = time_in(frame.attributes.get("GenMsgCycleTime"), f"{frame.name}: its GenMsgCycleTime")
     # canmatrix cuts a fraction of a millisecond off, and leaves the default of the attribute out
-    found = [(exact if exact and int(exact) == told else told, "")]
+    found = [(exact if exact and (not told or int(exact) == told) else told, "")]
     by_default = not found[0][0]
     if by_default:
         found.append((time("GenMsgCycleTime"), "the default of GenMsgCycleTime"))
@@ -192,6 +207,8 @@ def matrices_in(file: str, attributes: Collection[str]) -> tuple[dict[str, Any],
         lines = check_before(file, attributes)
     except OSError as fault:
         raise Fault(f"{file}: can't be read: {fault.strerror}")
+    if ending_of(file) in SHEETS:
+        need("xlrd")
     found, printed = loaded(file)
     try:
         if ending_of(file) == ".kcd":
@@ -203,7 +220,7 @@ def matrices_in(file: str, attributes: Collection[str]) -> tuple[dict[str, Any],
     said = [it.strip() for it in printed.splitlines() if it.strip()] + list(SAID)
     said += [str(it) for matrix in found.values() for it in matrix.load_errors]
     said = check_text(file, [frame for matrix in found.values() for frame in matrix.frames], said, lines)
-    if ending_of(file) in (".xls", ".xlsx"):
+    if ending_of(file) in SHEETS:
         said.append("a sheet has no lengths of frames: each has 8 bytes")
     return found, list(dict.fromkeys(said)), lost
 
@@ -218,8 +235,8 @@ def frame_of(frame: Any, matrix: Any, bus: str, name: str) -> Frame:
         identifier=int(frame.arbitration_id.id or 0),
         extended=bool(frame.arbitration_id.extended),
         size=bytes_of(frame),
-        is_fd=bool(frame.is_fd),
-        switches=str(attribute(frame, matrix, "CANFD_BRS") or "1") not in ("0", "off", "Off"),
+        is_fd=bool(frame.is_fd) or "_FD" in str(attribute(frame, matrix, FORMAT)),
+        switches=str(attribute(frame, matrix, SWITCH) or "1") not in ("0", "off", "Off"),
         values=max(1, len(frame.get_multiplexer_values)) if frame.is_multiplexed else 0,
         cycle=cycle,
         cycle_by=why,

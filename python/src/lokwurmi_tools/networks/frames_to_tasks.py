@@ -13,7 +13,7 @@ from typing import Any
 from lokwurmi.frames import SIZES, Bits, classical, error, flexible, padded
 from lokwurmi.model.limits import MOST_BIT, MOST_EXECUTION, MOST_TICKS
 from lokwurmi.model.units import bit_of
-from lokwurmi_tools.networks.buses import ERRORS, QUEUED, Bus, Frame
+from lokwurmi_tools.networks.buses import ERRORS, FORMAT, QUEUED, SWITCH, Bus, Frame
 from lokwurmi_tools.networks.frame_lengths import ticks
 from lokwurmi_tools.networks.import_notes import ImportNotes
 from lokwurmi_tools.networks.network_options import LEAVE, NetworkOptions, ShareOrTime
@@ -193,6 +193,8 @@ class Taker:
         report = self.report
         if frame.told != frame.name.removeprefix(f"{frame.bus}."):
             report.add(report.changed, "another name", f"{frame.told!r} is {frame.name}")
+        if FORMAT not in frame.own and "_FD" in str(frame.attributes.get(FORMAT)):
+            report.add(report.assumed, f"of CAN FD by the default of {FORMAT}", frame.name)
         if len(frame.senders) > 1:
             report.add(report.assumed, "one sender alone at a time, where the database has several", frame.name)
         if frame.is_on_events and frame.name not in self.forwards:
@@ -329,6 +331,9 @@ class Taker:
             )
         if frame.is_fd and frame.switches:
             self.used |= {"data_bitrate", f"data_bitrate {frame.bus}"}
+            if rates.data_bit != rates.bit and not frame.attributes.get(SWITCH):
+                what = f"it switches to the bit rate of the data phase, as no {SWITCH} tells whether it does"
+                self.report.add(self.report.assumed, what, frame.name)
         data_bit = rates.data_bit if frame.switches and rates.data_bit is not None else rates.bit
         least, greatest = (it.time(rates.bit, data_bit) for it in self.bits(frame))
         if not 1 <= least or greatest > MOST_EXECUTION:

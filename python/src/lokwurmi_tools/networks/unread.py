@@ -126,14 +126,17 @@ def check_sym(file: str, text: str, names: set[str]) -> None:
 
 
 def complete_sym(text: str, frames: Iterable[Any]) -> None:
-    """Gives each frame of a SYM file the shortest of its cycle times, and the greatest of its lengths: of a multiplexed
-    one canmatrix keeps the last, and of `Len` none."""
+    """Gives each frame of a SYM file the shortest of its cycle times, the greatest of its lengths, and its type: of a
+    multiplexed one canmatrix keeps the last, of `Len` none, and of types `Extended` alone."""
     named = {str(it.name): it for it in frames}
     shortest: dict[str, int] = {}
     frame: Any = None
     for _, _, key, value in sym_rows(text):
         if key == "[":
             frame = named.get(value)
+        if frame is not None and key == "type":
+            frame.is_fd = value.lower().startswith("fd")
+            frame.arbitration_id.extended = value.lower().endswith("extended")
         if frame is None or not value.isdecimal():
             continue
         if key == "cycletime" and int(value):
@@ -197,11 +200,25 @@ def check_said(file: str, text: str, said: list[str]) -> list[str]:
     return rest
 
 
+def complete_json(file: str, frames: list[Any]) -> int:
+    """Gives each frame of a JSON file what canmatrix leaves out there: whether it is one of CAN FD, and its attributes;
+    how many frames the file has. One without a length is refused, as canmatrix takes it for 8 bytes."""
+    with open(file, encoding="utf-8") as it:
+        messages = json.load(it).get("messages", [])
+    for message, frame in zip(messages, frames):
+        if "length" not in message:
+            says = 'has no length: give it one in bytes, as "length": 8'
+            raise Fault(f"{file}: message {frame.name} {says}")
+        frame.is_fd = message.get("is_fd") is True
+        told = message.get("attributes") or {}
+        frame.attributes.update({key: str(value) for key, value in told.items() if value is not None})
+    return len(messages)
+
+
 def check_count(file: str, frames: list[Any]) -> None:
     """Refuses a JSON or a DBF file that has more frames than were read."""
     if ending_of(file) == ".json":
-        with open(file, encoding="utf-8") as it:
-            found = len(json.load(it).get("messages", []))
+        found = complete_json(file, frames)
     elif ending_of(file) == ".dbf":
         found = text_in(file).count("[START_MSG]")
     else:

@@ -21,6 +21,7 @@ PACKAGES = {
     "lxml": "python3-lxml",
     "matplotlib": "python3-matplotlib",
     "tomlkit": "python3-tomlkit",
+    "xlrd": "python3-xlrd",
 }
 # set for the process that goes on there, so that it doesn't do so again
 AGAIN = "LOKWURMI_AGAIN"
