@@ -196,13 +196,16 @@ def kept_folders(slow, keep):
     hold(done.returncode == 2 and "another program" in done.stderr, "a folder of another program is refused")
     done = campaign(slow, "hammer", CAR, "--traces", 5, "--resume", keep)
     hold(done.returncode == 2 and "another system file" in done.stderr, "a folder of another system is refused")
-    with open(os.path.join(keep, "done.jsonl"), "a") as it:
-        it.write("what is this\n")
-    done = campaign(slow, *WORDS, "--resume", keep)
-    hold(
-        done.returncode == 2 and "line 35" in done.stderr and "Traceback" not in done.stderr,
-        "a folder with a line of something else is refused",
-    )
+    for line in ('{"key": "hammer 1 5", "answer": null}', '{"key": "hammer 1 5", "answer": [0, 5]}', "what is this"):
+        with open(os.path.join(keep, "done.jsonl"), "a") as it:
+            whole = it.tell()
+            it.write(f"{line}\n")
+        done = campaign(slow, *WORDS, "--resume", keep)
+        hold(
+            done.returncode == 2 and "line 35" in done.stderr and "Traceback" not in done.stderr,
+            f"a folder with a line of something else is refused: {line}: {done.stderr}",
+        )
+        os.truncate(os.path.join(keep, "done.jsonl"), whole)
 
 
 def calls_that_fail(folder):

@@ -46,7 +46,8 @@ class KeptAnswers:
             try:
                 it = json.loads(line)
                 if place:
-                    self.answers[it["key"]] = zlib.compress(json.dumps(it["answer"]).encode())
+                    status, text = it["answer"]
+                    self.answers[it["key"]] = zlib.compress(json.dumps([int(status), text + ""]).encode())
                 elif other := [name for name in campaign if it[name] != campaign[name]]:
                     raise Wrong(
                         f"{self.folder}: is of a campaign with another {other[0]}:"
