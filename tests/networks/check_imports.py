@@ -11,6 +11,7 @@ refused in words.
 import glob
 import os
 import random
+import re
 import tomllib
 from fractions import Fraction
 
@@ -333,6 +334,41 @@ def check_arxml(room):
     )
 
 
+FLEXIBLE = "<CAN-FRAME-TX-BEHAVIOR>CAN-FD</CAN-FRAME-TX-BEHAVIOR>"
+SUPPORT = "<CAN-FD-FRAME-SUPPORT>%s</CAN-FD-FRAME-SUPPORT>"
+SWITCH = "<TX-BIT-RATE-SWITCH>%s</TX-BIT-RATE-SWITCH>"
+# 29 to 34 bits of 2 us, and 33 + 64 to 34 + 80 of half a us where the frame switches its bit rate, else of 2 us
+SWITCHED, UNSWITCHED, CLASSICAL = (106, 125, None), (252, 296, None), (None, None, 8)
+
+
+def check_flexible(room):
+    """A file of AUTOSAR: which frames are of CAN FD, and which of them switch their bit rate."""
+    file = dumped(room, "flexible.arxml", {"body": matrix_of([("a", 0x10, False, 8, 0, {})])})
+    with open(timed_arxml(room, file, {"a": "0.02"}), encoding="utf-8") as it:
+        plain = it.read()
+    for of_frame, of_station, wanted in (
+        ("", "", CLASSICAL),
+        (SUPPORT % "false", SWITCH % "true", CLASSICAL),
+        (FLEXIBLE, "", SWITCHED),
+        (SUPPORT % "true", "", SWITCHED),
+        (FLEXIBLE, SWITCH % "true", SWITCHED),
+        (FLEXIBLE, SWITCH % "false", UNSWITCHED),
+        (SUPPORT % "TRUE", SWITCH % "true" + SWITCH % "0", UNSWITCHED),
+    ):
+        text = re.sub("(<IDENTIFIER>)", of_frame + r"\1", plain)
+        text = re.sub("(</AR-PACKAGES>)", of_station + r"\1", text, count=1)
+        rates = ("--bitrate", 500000, "--data-bitrate", 2000000)
+        system, told, _ = imported(written(room, "flexible.arxml", text), *rates)
+        found = [tuple(it.get(key) for key in ("best", "worst", "payload")) for it in system.get("task", [])]
+        hold(found == [wanted], f"{of_frame} {of_station}: {found} {told}")
+        is_told = "as no CANFD_BRS tells whether it does" in told
+        hold(is_told == (wanted == SWITCHED and not of_station), f"{of_frame} {of_station}: {told}")
+    for bad in (SUPPORT % "perhaps", "<CAN-FRAME-TX-BEHAVIOR>FD</CAN-FRAME-TX-BEHAVIOR>"):
+        text = re.sub("(<IDENTIFIER>)", bad + r"\1", plain)
+        told = said_by("import network", written(room, "bad.arxml", text), "--bitrate", 500000)
+        hold(re.search(r"bad.arxml: line \d+: frame FRAME_a of bus body: CAN-F.* is (perhaps|FD): it is ", told), told)
+
+
 def check_clusters(room):
     """An ARXML file of two clusters, which share a frame that has another identifier on each."""
     file = dumped(
@@ -444,6 +480,7 @@ if __name__ == "__main__":
         check_gateway_queue,
         check_buses,
         check_arxml,
+        check_flexible,
         check_clusters,
         check_shipped,
     )

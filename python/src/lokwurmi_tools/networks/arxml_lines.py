@@ -50,6 +50,8 @@ class Triggered(NamedTuple):
     period: Fraction  # the shortest; 0 where none is told
     offset: str | None  # when it begins, where one period alone starts it
     senders: list[str]
+    is_flexible: bool  # whether it is one of CAN FD
+    switches: bool | None  # whether that switches its bit rate; None where none tells
 
 
 class ArxmlFrames:
@@ -117,18 +119,45 @@ class ArxmlFrames:
         starts = list(timings[0].iter("{*}TIME-OFFSET", "{*}STARTING-TIME"))
         return (text_of(starts[0], "VALUE") or "empty") if len(starts) == 1 else None
 
-    def senders_of(self, triggering: Any) -> list[str]:
-        """The stations out of whose ports a frame goes; two of one name by their paths."""
-        found = []
+    def stations_of(self, triggering: Any) -> Iterator[tuple[str, Any]]:
+        """The ports out of which a frame goes, by their paths, each with its station."""
         for it in triggering.iter("{*}FRAME-PORT-REF"):
             path = str(it.text or "").strip()
             port = self.paths.get(path)
-            if port is None or text_of(port, "COMMUNICATION-DIRECTION") != "OUT":
-                continue
-            for station in port.iterancestors("{*}ECU-INSTANCE"):
-                name = text_of(station, "SHORT-NAME") or path
-                found.append(name if self.stations.count(name) == 1 else path)
+            if port is not None and text_of(port, "COMMUNICATION-DIRECTION") == "OUT":
+                yield from ((path, station) for station in port.iterancestors("{*}ECU-INSTANCE"))
+
+    def senders_of(self, triggering: Any) -> list[str]:
+        """The stations out of whose ports a frame goes; two of one name by their paths."""
+        found = []
+        for path, station in self.stations_of(triggering):
+            name = text_of(station, "SHORT-NAME") or path
+            found.append(name if self.stations.count(name) == 1 else path)
         return list(dict.fromkeys(found))
+
+    def truth_of(self, element: Any, what: str) -> bool:
+        """What an element says that is true or false."""
+        word, key = str(element.text or "").strip(), element.tag.rpartition("}")[2]
+        if word.lower() not in ("true", "1", "false", "0"):
+            raise self.fault(element, f"{what}: {key} is {word or 'empty'}: it is true or false")
+        return word.lower() in ("true", "1")
+
+    def is_flexible(self, triggering: Any, what: str) -> bool:
+        """Whether a triggered frame is one of CAN FD."""
+        behaviour = text_of(triggering, "CAN-FRAME-TX-BEHAVIOR")
+        if behaviour not in (None, "CAN-20", "CAN-FD"):
+            says = f"{what}: CAN-FRAME-TX-BEHAVIOR is {behaviour or 'empty'}: it is CAN-20 or CAN-FD"
+            raise self.fault(triggering, says)
+        support = triggering.find("{*}CAN-FD-FRAME-SUPPORT")
+        is_supported = support is not None and self.truth_of(support, what)
+        return is_supported or "CAN-FD" in (behaviour, text_of(triggering, "CAN-FRAME-RX-BEHAVIOR"))
+
+    def switches_of(self, triggering: Any, what: str) -> bool | None:
+        """Whether a frame of CAN FD switches its bit rate: not where a controller of a station that sends it, of any
+        where none is named, doesn't; None where none tells."""
+        stations = [it for _, it in self.stations_of(triggering)] or [self.root]
+        told = [self.truth_of(it, what) for one in stations for it in one.iter("{*}TX-BIT-RATE-SWITCH")]
+        return all(told) if told else None
 
     def triggerings(self, cluster: Any) -> Iterator[Triggered]:
         """The frames of a cluster."""
@@ -149,7 +178,8 @@ class ArxmlFrames:
                 units = self.units_of(frame, what)
                 period = min((at for at in self.periods_of(units, what) if at), default=Fraction(0))
                 offset = self.offset_of(units)
-            yield Triggered(name, number, is_long, size, period, offset, self.senders_of(it))
+            kind = self.is_flexible(it, what), self.switches_of(it, what)
+            yield Triggered(name, number, is_long, size, period, offset, self.senders_of(it), *kind)
 
     def lost(self) -> list[str]:
         """The frames of the file that nothing triggers; one that is triggered beside the clusters is refused."""

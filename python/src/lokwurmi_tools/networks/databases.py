@@ -142,6 +142,9 @@ def triggered(read: Any, it: Triggered) -> Any:
     frame.arbitration_id = canmatrix.ArbitrationId(it.number, extended=it.is_long)
     frame.size = max(it.size, int(frame.size))
     frame.transmitters = it.senders
+    frame.is_fd = it.is_flexible
+    if it.switches is not None:
+        frame.attributes[SWITCH] = str(int(it.switches))
     if it.period:
         frame.cycle_time = int(it.period * 1000)
         frame.attributes["GenMsgCycleTime"] = str(it.period * 1000)
