@@ -216,7 +216,7 @@ def check_flexible(room):
     tasks = {it["name"]: it for it in system["task"]}
     hold((tasks["Speed"].get("best"), tasks["Speed"].get("worst")) == (106, 125), f"a default: {tasks['Speed']}")
     hold("of CAN FD by the default of VFrameFormat: Speed, Extras" in told, f"a default: {told}")
-    hold("as no CANFD_BRS tells whether it does: Speed, Extras" in told, f"no CANFD_BRS: {told}")
+    hold("as the file doesn't tell whether it does: Speed, Extras" in told, f"whether it switches: {told}")
     told = said_by("import network", written(room, "car.dbc", DBC % "0"), "--bitrate", 500000, *LEAVE)
     hold("Flexible: it is a frame of CAN FD, and the bit rate of the data phase isn't told" in told, told)
 

@@ -356,12 +356,13 @@ def check_flexible(room):
         (SUPPORT % "TRUE", SWITCH % "true" + SWITCH % "0", UNSWITCHED),
     ):
         text = re.sub("(<IDENTIFIER>)", of_frame + r"\1", plain)
-        text = re.sub("(</AR-PACKAGES>)", of_station + r"\1", text, count=1)
-        rates = ("--bitrate", 500000, "--data-bitrate", 2000000)
-        system, told, _ = imported(written(room, "flexible.arxml", text), *rates)
+        station = f"<ELEMENTS><ECU-INSTANCE><SHORT-NAME>Motor</SHORT-NAME>{of_station}</ECU-INSTANCE></ELEMENTS>"
+        text = re.sub(r"(<SHORT-NAME>ECU</SHORT-NAME>\s*)<ELEMENTS/>", r"\1" + station, text)
+        rates = ("--data-bitrate", 2000000) if wanted == SWITCHED else ()
+        system, told, _ = imported(written(room, "flexible.arxml", text), "--bitrate", 500000, *rates)
         found = [tuple(it.get(key) for key in ("best", "worst", "payload")) for it in system.get("task", [])]
         hold(found == [wanted], f"{of_frame} {of_station}: {found} {told}")
-        is_told = "as no CANFD_BRS tells whether it does" in told
+        is_told = "as the file doesn't tell whether it does" in told
         hold(is_told == (wanted == SWITCHED and not of_station), f"{of_frame} {of_station}: {told}")
     for bad in (SUPPORT % "perhaps", "<CAN-FRAME-TX-BEHAVIOR>FD</CAN-FRAME-TX-BEHAVIOR>"):
         text = re.sub("(<IDENTIFIER>)", bad + r"\1", plain)

@@ -332,7 +332,7 @@ class Taker:
         if frame.is_fd and frame.switches:
             self.used |= {"data_bitrate", f"data_bitrate {frame.bus}"}
             if rates.data_bit != rates.bit and not frame.attributes.get(SWITCH):
-                what = f"it switches to the bit rate of the data phase, as no {SWITCH} tells whether it does"
+                what = "it switches to the bit rate of the data phase, as the file doesn't tell whether it does"
                 self.report.add(self.report.assumed, what, frame.name)
         data_bit = rates.data_bit if frame.switches and rates.data_bit is not None else rates.bit
         least, greatest = (it.time(rates.bit, data_bit) for it in self.bits(frame))
