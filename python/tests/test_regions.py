@@ -225,9 +225,11 @@ class Times(unittest.TestCase):
             self.assertEqual(session.bounds["log"], 21)
             session.exec("log", worst=us(10))
             self.assertEqual(session.bounds["log"], 11)
+            self.assertEqual([(it.key, it.ticks) for it in session.roundings], [("region", 21), ("worst", 11)])
+            # what is exact now isn't told as rounded
             session.exec("log", worst=us(30))
             self.assertEqual(session.bounds["log"], 30)
-            self.assertEqual([it.ticks for it in session.roundings], [21, 21, 11])
+            self.assertEqual([(it.key, it.ticks) for it in session.roundings], [("region", 21)])
 
 
 if __name__ == "__main__":

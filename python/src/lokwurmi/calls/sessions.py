@@ -21,6 +21,9 @@ from lokwurmi.results.reports import Verdict
 if TYPE_CHECKING:
     from lokwurmi.calls.system import System
 
+# the numbers that edits set
+_SET = ("best", "worst", "slot", "period", "jitter", "distance", "offset")
+
 
 class Session:
     """A system under edits. Use it as a context manager, which closes it:
@@ -105,7 +108,17 @@ class Session:
         edit = next(it for it in line.split("\n") if it.strip(" \t\r") and not it.lstrip(" \t").startswith("#"))
         _apply(self._system, edit.split())
         anew = {(it.what, it.key) for it in told}
-        self._roundings = [it for it in self._roundings if (it.what, it.key) not in anew] + list(told)
+        self._roundings = [it for it in self._roundings if (it.what, it.key) not in anew and self._stands(it)]
+        self._roundings += told
+
+    def _stands(self, it: Rounding) -> bool:
+        """Whether what was rounded is a number of its entry still."""
+        kind, _, name = it.what.partition(" ")
+        parts: dict[str, Mapping[str, Task | Source]] = {"task": self._system.tasks, "source": self._system.sources}
+        entry = parts.get(kind, {}).get(name)
+        if entry is None:
+            return kind != "task"
+        return it.key not in _SET or self._system.ticks(entry, it.key) == it.ticks
 
     def _refused(self, line: str, rule: int, shown: str = "") -> EditRefused:
         """The refusal of an edit, in words."""
