@@ -16,15 +16,19 @@ at, a report with another bound must be told as an error, and what isn't taken i
     python3 -m tests.tools.check_explain [NUMBER of systems, 5000 if absent] [NUMBER to begin with, 0 if absent]
 """
 import collections
+import contextlib
+import io
 import json
 import os
 import re
 import subprocess
 import sys
 import tempfile
+from unittest import mock
 
 from lokwurmi_tools.bounds.bound_texts import lines_of_path, lines_of_task
 from lokwurmi_tools.bounds.explained import Explained
+from lokwurmi_tools.shared import progress
 from lokwurmi_tools.shared.analysed import analysed
 from lokwurmi_tools.shared.system_text import toml_of
 from tests.rules import bounds as plain
@@ -436,6 +440,16 @@ def check_told(python, room):
     )
 
 
+def check_progress():
+    """How far it is, where that takes long: all lines of it, as though each came late."""
+    known = analysed(PROGRAM, str(TOP / "examples" / "two_tasks.toml"))
+    heard = io.StringIO()
+    with mock.patch.object(progress, "ELSEWHERE", 0.0), contextlib.redirect_stderr(heard):
+        Explained(known.view, known.report, tool="lokwurmi explain").tasks(known.view.tasks)
+    wanted = [f"lokwurmi explain: {it} of 2 tasks are explained" for it in (1, 2)]
+    hold(heard.getvalue().splitlines() == wanted, f"progress: {heard.getvalue()}", "told")
+
+
 def main():
     numbers = range_of(__doc__, 5000, NEEDS_PROGRAM)
     python = python_with("matplotlib")
@@ -451,6 +465,7 @@ def main():
             check_examples(python, room)
         check_errors(python or sys.executable, room)
         check_told(python or sys.executable, room)
+    check_progress()
     tell(without="" if python else ", without what is drawn: matplotlib is not here")
 
 

@@ -2,6 +2,7 @@
 
 All of it is worked out here, by `bound_parts`, and held against the report: `faults` says where the two differ.
 """
+from collections.abc import Iterable
 from fractions import Fraction
 
 from lokwurmi.model.limits import Kind
@@ -10,6 +11,7 @@ from lokwurmi.results.reports import Report
 from lokwurmi_tools.bounds.bound_parts import BoundParts, LatestJob, Tired
 from lokwurmi_tools.bounds.overload_causes import OverloadCauses
 from lokwurmi_tools.bounds.phases import Phases
+from lokwurmi_tools.shared.progress import Progress
 from lokwurmi_tools.shared.report import bounds_in
 from lokwurmi_tools.shared.types import Values
 
@@ -22,10 +24,11 @@ WAIT = ("kind", "of", "under", "lock")
 
 class Explained:
     """A system, its report, and the parts of its bounds; with a most of looks at windows what takes more isn't worked
-    out."""
+    out. It says how far it is where a tool is named."""
 
-    def __init__(self, view: SystemView, report: Report, most: int | None = None):
+    def __init__(self, view: SystemView, report: Report, most: int | None = None, tool: str = ""):
         self.view, self.report, self.most = view, report, most
+        self.progress = Progress(tool) if tool else None
         self.parts = BoundParts(view, bounds_in(report))
         self.faults: list[str] = []
         self.known: dict[str, Values] = {}
@@ -46,7 +49,16 @@ class Explained:
         if name not in self.known:
             known = self.facts(name)
             self.known[name] = known | (self.made_of(name) if known["bound"] is not None else self.endless(name))
+            if self.progress:
+                self.progress.show(f"{len(self.known)} of {len(self.view.tasks)} tasks are explained")
         return self.known[name]
+
+    def tasks(self, names: Iterable[str]) -> list[Values]:
+        """What there is to tell of several."""
+        told = [self.task(name) for name in names]
+        if self.progress:
+            self.progress.clear()
+        return told
 
     def facts(self, name: str) -> Values:
         """What the file and the report say of a task."""

@@ -116,11 +116,11 @@ def chains_of(options: ExplainOptions, view: SystemView) -> list[AskedChain]:
 def told_of(options: ExplainOptions) -> ToldBounds:
     """All that is asked for."""
     known = analysed(options.program, options.file)
-    explained = Explained(known.view, known.report)
+    explained = Explained(known.view, known.report, tool="lokwurmi explain")
     check_names(options, known.view)
     tasks = list(known.view.tasks) if options.all else [options.task] if options.task else []
     paths = list(known.view.paths) if options.all else [options.path] if options.path else []
-    told_tasks, told_paths = [explained.task(it) for it in tasks], [explained.path(it) for it in paths]
+    told_tasks, told_paths = explained.tasks(tasks), [explained.path(it) for it in paths]
     # what would help is tried for a path that is asked for, and not for each
     helps = [helps_for(known, it) for it in paths] if options.path else []
     of_chains = ExplainedChains(explained, options.program, options.file, options.tick is not None)

@@ -46,7 +46,7 @@ class PageSystem:
     def __init__(self, known: Analysed, scale: Scale):
         self.known, self.view, self.report, self.scale = known, known.view, known.report, scale
         self.sources = self.view.sources
-        self.explained = Explained(self.view, self.report, MOST_LOOKS)
+        self.explained = Explained(self.view, self.report, MOST_LOOKS, "lokwurmi page")
         self.behind = self.explained.behind
         self.hue_of_source, self.shades = hues_of_sources(self.view), shades(self.view)
         missed = [it for it in self.view.paths.values() if self.report.paths[it.name].verdict is Verdict.MISSED]
@@ -162,6 +162,7 @@ class PageSystem:
     def made_of(self) -> Values:
         """What each bound and each path is made of, as the page's script reads it, and the colours of tasks, with that
         of letters on them."""
+        self.explained.tasks(self.view.tasks)
         tasks = {name: self.made_of_task(name) for name in self.view.tasks}
         paths = {name: self.made_of_path(name) for name in self.view.paths}
         hues = {name: [hue, letters_on(hue)] for name, hue in self.shades.items()}
