@@ -157,7 +157,7 @@ class Call:
     def no_toml(self) -> str | None:
         # of `chains` either of its files may be the one
         name = self.line.removeprefix("not TOML ") if self.command == "chains" else self.file("system")
-        if not name:
+        if not name or not os.path.exists(name):
             return None
         if not is_regular(name):
             return self.look.text(File(name, ""), Remark("it isn't TOML", None, AGAIN, more="Statuses"))

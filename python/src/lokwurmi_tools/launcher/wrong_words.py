@@ -3,7 +3,6 @@ from __future__ import annotations
 
 import sys
 
-from lokwurmi.refusals.remark import is_utf_8
 from lokwurmi_tools.launcher.operands import shown, without_flag
 from lokwurmi_tools.launcher.paths import PAGE
 from lokwurmi_tools.launcher.table import BY_NAME, COMMANDS, MORE_TASKS, MOST_TASKS, RUNNING, WORDS, WORKERS, Command
@@ -39,6 +38,8 @@ def wrong_number(what: str, word: str, least: int, most: int) -> str:
 
 def wrong_word(sort: str, word: str) -> str:
     """What is wrong with a word in the place of FILE, NUMBER and the like."""
+    from lokwurmi.refusals.remark import is_utf_8
+
     if not word:
         return f"the word for {sort or 'one more'} is empty"
     if not is_utf_8(word):
