@@ -350,6 +350,8 @@ def check_flexible(room):
         ("", "", CLASSICAL),
         (SUPPORT % "false", SWITCH % "true", CLASSICAL),
         (FLEXIBLE, "", SWITCHED),
+        (FLEXIBLE.replace("TX", "RX"), "", SWITCHED),
+        (FLEXIBLE.replace("FD", "20") + FLEXIBLE.replace("TX", "RX"), "", CLASSICAL),
         (SUPPORT % "true", "", SWITCHED),
         (FLEXIBLE, SWITCH % "true", SWITCHED),
         (FLEXIBLE, SWITCH % "false", UNSWITCHED),

@@ -143,14 +143,15 @@ class ArxmlFrames:
         return word.lower() in ("true", "1")
 
     def is_flexible(self, triggering: Any, what: str) -> bool:
-        """Whether a triggered frame is one of CAN FD."""
+        """Whether a triggered frame is one of CAN FD: as it is sent, where that is told."""
         behaviour = text_of(triggering, "CAN-FRAME-TX-BEHAVIOR")
         if behaviour not in (None, "CAN-20", "CAN-FD"):
             says = f"{what}: CAN-FRAME-TX-BEHAVIOR is {behaviour or 'empty'}: it is CAN-20 or CAN-FD"
             raise self.fault(triggering, says)
         support = triggering.find("{*}CAN-FD-FRAME-SUPPORT")
         is_supported = support is not None and self.truth_of(support, what)
-        return is_supported or "CAN-FD" in (behaviour, text_of(triggering, "CAN-FRAME-RX-BEHAVIOR"))
+        received = text_of(triggering, "CAN-FRAME-RX-BEHAVIOR")
+        return behaviour == "CAN-FD" if behaviour else is_supported or received == "CAN-FD"
 
     def switches_of(self, triggering: Any, what: str) -> bool | None:
         """Whether a frame of CAN FD switches its bit rate: not where a controller of a station that sends it, of any
