@@ -151,10 +151,14 @@ def check_signals(program, room):
     """A command that a signal ends says so, and leaves no temporary file; nor does it end by one that is ignored."""
     for number in (signal.SIGINT, signal.SIGTERM, signal.SIGHUP):
         folder = tempfile.mkdtemp(dir=room)
-        words = asked("sensitivity examples/car_network.toml", program)
+        begun = os.path.join(room, f"begun.{number}")
+        # a program that takes long once it is called with a temporary file
+        slow = f'#!/bin/sh\ncase "$*" in *"{folder}"*) : >"{begun}"; sleep 2;; esac\nexec "{program}" "$@"\n'
+        words = asked("sensitivity examples/locks.toml", written(room, f"slow.{number}", slow))
+        os.chmod(words[-1], 0o755)
         more = {"stdout": subprocess.DEVNULL, "stderr": subprocess.PIPE, "cwd": TOP, "text": True}
         with subprocess.Popen(words, env=os.environ | {"TMPDIR": folder}, **more) as it:
-            while not os.listdir(folder) and it.poll() is None:
+            while not os.path.exists(begun) and it.poll() is None:
                 time.sleep(0.05)
             it.send_signal(number)
             said = it.communicate()[1]

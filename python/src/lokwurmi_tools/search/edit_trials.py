@@ -1,5 +1,4 @@
 """Tries edits of a system, each alone, in one session of the proved program, for the tools beside it."""
-import tempfile
 from typing import NamedTuple
 
 from lokwurmi.results.reports import Report
@@ -21,10 +20,8 @@ class Trial(NamedTuple):
 def reports_after(program: str, file: str, trials: list[Trial], before: Report) -> list[Report]:
     """The report of a file after each of some trials alone. The report of the file as it is must come at the end
     again."""
-    with tempfile.NamedTemporaryFile("w", suffix=".script", encoding="ascii") as script:
-        script.write("".join(f"{line}\n" for it in trials for line in it.lines()))
-        script.flush()
-        status, text = call(program, "session", file, script.name)
+    script = "".join(f"{line}\n" for it in trials for line in it.lines())
+    status, text = call(program, "session", file, "/dev/stdin", given=script)
     is_refused = text.startswith("line ") or "\nline " in text
     if not 0 <= status < 10 or is_refused:
         raise OwnFault(f"lokwurmi session ends with {status}: {text[:200]!r}")

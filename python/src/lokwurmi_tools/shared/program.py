@@ -30,13 +30,12 @@ def often(program: str) -> str:
     return BINARY if program == LAUNCHER and is_built() else program
 
 
-def call(program: str, *words: str) -> tuple[int, str]:
-    """The status of a call, and what it writes. What it tells a terminal, as how far a build is, goes there; what it
-    would say beside its output is said by whoever calls."""
+def call(program: str, *words: str, given: str | None = None) -> tuple[int, str]:
+    """The status of a call, and what it writes; its standard input may be given. What it tells a terminal, as how far
+    a build is, goes there; what it would say beside its output is said by whoever calls."""
+    quiet = os.environ | {"LOKWURMI_QUIET": "1"}
     try:
-        done = subprocess.run(
-            [program, *words], stdout=subprocess.PIPE, text=True, check=False, env=os.environ | {"LOKWURMI_QUIET": "1"}
-        )
+        done = subprocess.run([program, *words], input=given, stdout=subprocess.PIPE, text=True, check=False, env=quiet)
     except OSError as fault:
         raise Fault(
             f"{program}: can't be called: {fault.strerror}. `./lokwurmi --version` builds nothing,"
