@@ -325,7 +325,7 @@ def found_in_turn(check: Check, until: float | None) -> Found:
 def show(it: Found, verbose: bool) -> None:
     """A line of a check, and what it wrote."""
     took = "" if it.outcome == "skipped" and not it.seconds else f"{it.seconds:6.0f} s"
-    print(f"{it.check.name:<22}{it.outcome:<8}{took:<8}{f'  {it.why}' if it.why else ''}".rstrip(), flush=True)
+    print(f"{it.check.name:<25}{it.outcome:<8}{took:<8}{f'  {it.why}' if it.why else ''}".rstrip(), flush=True)
     if it.outcome == "failed" or verbose and it.text:
         print(f"    {it.check.call}")
         print("".join(f"    {line}\n" for line in it.text.splitlines()), end="", flush=True)
@@ -382,7 +382,7 @@ def main(words: list[str] | None = None) -> int:
         signal.signal(signal.SIGPIPE, signal.SIG_DFL)
         for it in chosen:
             why = lacking(it)
-            print(f"{it.name:<22}{it.call}{f'  (skipped: {why})' if why else ''}")
+            print(f"{it.name:<25}{it.call}{f'  (skipped: {why})' if why else ''}")
         return 0
     outcomes = [it.outcome for it in all_found(chosen, asked)]
     counts = {it: outcomes.count(it) for it in ("passed", "failed", "skipped")}
