@@ -90,7 +90,7 @@ def words_for(crate: str, kept: Path) -> list[str]:
     own = [it for it in uses[crate] if it in uses]
     named = [it for it in uses[crate] if it not in uses]
     words = [str(top / "bin" / "rattle"), "check", "--crate-name", crate, "src/lib.rt"]
-    for it in named if "core" in named else ["std", *named]:
+    for it in ["std", *named]:
         words += ["--extern", f"{it}={top}/rlibs/{it}.rlib"]
     words += ["-L", f"dependency={top}/rlibs"]
     for it in own:
