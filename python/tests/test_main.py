@@ -51,6 +51,12 @@ class Main(unittest.TestCase):
         )
         self.assertEqual((done.returncode, done.stdout), (0, (EXAMPLES / "pycpa_first.report.txt").read_text()))
 
+    def test_other_program(self) -> None:
+        """A program that writes no report says nothing of bounds."""
+        found = self.call("--program", "/bin/true", EXAMPLES / "two_tasks.toml")
+        self.assertEqual(found[:2], (70, ""))
+        self.assertIn("there is no whole report", found[2])
+
     def test_outputs(self) -> None:
         """An output that is full or closed has the status of the program, and none that says something of bounds."""
         need_engine()

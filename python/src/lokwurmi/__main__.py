@@ -13,13 +13,14 @@ from lokwurmi.calls.engines import Engine, default_engine
 from lokwurmi.calls.library import Library
 from lokwurmi.calls.program import Program
 from lokwurmi.calls.system import System
-from lokwurmi.errors import LokwurmiError, NoEngine, SystemRefused
+from lokwurmi.errors import LokwurmiError, NoEngine, SystemRefused, Unreadable
 from lokwurmi.files.documents import Document
 from lokwurmi.model.conversion import NoUnitWarning, RoundingWarning
 from lokwurmi.model.statuses import Status
 from lokwurmi.model.units import Time
 from lokwurmi.refusals.program_lines import error_of
 from lokwurmi.refusals.sentences import notices_of, refusal_words
+from lokwurmi.results.reports import reports
 
 EXAMPLE = """example:
   python3 -m lokwurmi examples/two_tasks.toml
@@ -103,6 +104,16 @@ def is_written(text: str) -> bool:
     return False
 
 
+def is_report(wrote: str) -> bool:
+    """Whether a report was written as a whole; says so where not, as of a program that is another one."""
+    try:
+        reports(wrote)
+    except Unreadable as fault:
+        print(f"what analyses isn't lokwurmi, or was ended: {fault}", file=sys.stderr)
+        return False
+    return True
+
+
 def main(words: list[str] | None = None) -> int:
     """Prints the report, and gives the status."""
     asked = asked_for(words)
@@ -129,6 +140,8 @@ def main(words: list[str] | None = None) -> int:
             else wrote
         )
         print(f"{asked.file}: {told}", file=sys.stderr)
+    elif not is_report(wrote):
+        return Status.NO_PROGRAM
     else:
         for it in notices_of(text.decode("utf-8", "surrogateescape").replace("\r\n", "\n")):
             print(f"{asked.file}: notice: {it}", file=sys.stderr)

@@ -47,13 +47,15 @@ class KeptAnswers:
                 it = json.loads(line)
                 if place:
                     status, text = it["answer"]
+                    if int(status) < 10 and not text.splitlines()[-1].startswith("summary "):
+                        raise ValueError
                     self.answers[it["key"]] = zlib.compress(json.dumps([int(status), text + ""]).encode())
                 elif other := [name for name in campaign if it[name] != campaign[name]]:
                     raise Wrong(
                         f"{self.folder}: is of a campaign with another {other[0]}:"
                         " take another folder, or remove this one"
                     )
-            except (ValueError, KeyError, TypeError):
+            except (ValueError, KeyError, TypeError, IndexError, AttributeError):
                 raise Wrong(f"{self.path}: line {place + 1} is none of a campaign: take another folder")
             end += len(line)
         self.file.truncate(end)
