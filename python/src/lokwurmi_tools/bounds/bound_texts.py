@@ -53,7 +53,7 @@ def turn_of(told: Values, scale: Scale = TICKS) -> str:
     """What tells who goes first, behind the kind; on a queue nothing but when jobs come."""
     if "slot" in told:
         return f"{told['kind']}, slot {scale.text(told['slot'])}"
-    return f"{told['kind']}, priority {told['priority']}" if "priority" in told else told["kind"]
+    return f"{told['kind']}, priority {told['priority']}" if "priority" in told else str(told["kind"])
 
 
 def jitter_text(stream: Values, scale: Scale) -> str:

@@ -107,7 +107,7 @@ def reader_of(name: str, description: str | None, examples: str = "") -> argpars
 
 def options_of(kind: type[Options], words: argparse.Namespace, **more: Any) -> Options:
     """The typed options of a room: each field has the word of its name, or what is told beside the words."""
-    names = [it.name for it in fields(kind)]  # type: ignore[arg-type]
+    names = [it.name for it in fields(kind)]
     return kind(**{name: more[name] if name in more else getattr(words, name) for name in names})
 
 

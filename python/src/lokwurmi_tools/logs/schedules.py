@@ -87,7 +87,7 @@ def zeros_of(number: int) -> int:
 
 def roundest(low: float, high: float) -> int | None:
     """The roundest whole number above 0 in a range, and of several the one in its middle; None where there is none."""
-    step = 10 ** len(str(int(high)))
+    step: int = 10 ** len(str(int(high)))
     while step:
         near = round((low + high) / 2 / step) * step
         if near and low <= near <= high:
