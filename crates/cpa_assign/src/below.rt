@@ -7,8 +7,7 @@ ghost use Rattle.cpa_model.specs.SystemLists.{is_on};
 ghost use Rattle.cpa_assign.specs.Placing.{is_below, is_reaching, reaches, placed_section, placed_sections, placed_between, placed_blocking, without};
 
 use crate::placing::stands_above;
-use cpa_local::uses_lock;
-use cpa_model::{CriticalSection, Kind, System, Task};
+use cpa_model::{CriticalSection, Kind, System, Task, uses_lock};
 use cpa_units::{ResId, TaskId};
 
 /// Whether another task of the resource is below this one at the lowest free place.

@@ -6,19 +6,9 @@ ghost use Rattle.cpa_units.specs.declared.limits.TheConstants.{MAX_EXECUTION, MA
 ghost use Rattle.cpa_model.specs.Locks.{uses_lock, ceiling_of, section_of, lock_sections, section_blocking, blocking_by_sections, ceiling_blocking};
 ghost use Rattle.cpa_model.specs.SystemLists.{task_at, priority_of};
 
-use cpa_model::{CriticalSection, System, Task};
+use cpa_model::{CriticalSection, System, Task, uses_lock};
 use cpa_units::limits::MAX_PRIORITY;
 use cpa_units::{ResId, TaskId};
-
-/// Whether a task uses a lock.
-pub fn uses_lock(task: &Task, lock: &[u8]) -> bool
-    ensures { result ≡ uses_lock lock.now task.now }
-{
-    task.locks
-        .sections()
-        .iter()
-        .any(|section| lock == section.lock.bytes())
-}
 
 /// Whether a task has this priority or a more urgent one, and uses a lock.
 fn is_user(task: &Task, priority: u32, lock: &[u8]) -> bool

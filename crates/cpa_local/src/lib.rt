@@ -24,7 +24,6 @@ mod start;
 mod trail;
 
 pub use analysis::respond;
-pub use ceilings::uses_lock;
 pub use inputs::input;
 pub use laws::{
     inputs_follow_streams, least_solutions_have_laws, plain_responses_are_the_same,

@@ -22,5 +22,5 @@ pub use cpa_draft::{
     KindWord, Part, Raw, RawList, Refusal,
 };
 pub use entries::{Activator, Kind, OnClock, Path, Resource, Source, Task, TaskList, Turn};
-pub use locks::{CriticalSection, Locks};
+pub use locks::{CriticalSection, Locks, uses_lock};
 pub use system::System;

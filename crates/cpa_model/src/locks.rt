@@ -1,15 +1,13 @@
 //! Critical sections of tasks, under immediate priority ceilings. All times are in ticks.
 
-ghost use Rattle.std.specs.Prelude.{◌≡◌, ◌<◌, ◌≤◌, IfOk, length};
-ghost use Rattle.cpa_units.specs.declared.limits.TheConstants.{MAX_EXECUTION, MAX_PRIORITY};
-ghost use Rattle.cpa_model.specs.Rules.{IsTask};
-ghost use Rattle.cpa_model.specs.Locks.{uses_lock, ceiling_of, section_of, lock_sections, section_blocking, blocking_by_sections, ceiling_blocking};
-ghost use Rattle.cpa_model.specs.SystemLists.{task_at};
+ghost use Rattle.std.specs.Prelude.{◌≡◌, ◌<◌, IfOk, length};
+ghost use Rattle.cpa_units.specs.declared.limits.TheConstants.{MAX_PRIORITY};
+ghost use Rattle.cpa_model.specs.Locks.{uses_lock, ceiling_of};
 
 use crate::entries::Task;
 use crate::system::System;
 use cpa_units::limits::MAX_PRIORITY;
-use cpa_units::{Name, NoMemory, ResId, TaskId};
+use cpa_units::{Name, NoMemory, ResId};
 use std::alloc::Global;
 use std::marker::Model;
 
@@ -99,7 +97,7 @@ impl Locks {
 }
 
 /// Whether a task uses a lock.
-fn uses_lock(task: &Task, lock: &[u8]) -> bool
+pub fn uses_lock(task: &Task, lock: &[u8]) -> bool
     ensures { result ≡ uses_lock lock.now task.now }
 {
     task.locks
@@ -123,46 +121,5 @@ impl System {
             }
         }
         least
-    }
-
-    /// By how many ticks a critical section of a task keeps a job of this priority waiting.
-    fn section_blocking(&self, priority: u32, lower: &Task, section: &CriticalSection) -> u64
-        requires { lower.now.res.0 < length self.now.resources }
-        ensures value { result ≡ section_blocking priority lower.now.worst (section_of self.now lower.now.res.0 section.now) }
-        ensures in_range { result ≤ lower.now.worst }
-    {
-        if self.ceiling(lower.res, section.lock.bytes()) <= priority {
-            section.length.min(lower.worst).saturating_sub(1)
-        } else {
-            0
-        }
-    }
-
-    /// The greatest of those of a task's critical sections.
-    fn blocking_by_sections(&self, priority: u32, lower: TaskId) -> u64
-        requires { lower.0 < length self.now.tasks }
-        ensures value { result ≡ blocking_by_sections priority (task_at self.now lower.0).worst (lock_sections self.now lower.0) }
-        ensures in_range { result ≤ MAX_EXECUTION }
-    {
-        let entry = self.task(lower);
-        let mut most = 0;
-        for section in entry.locks.sections() {
-            most = most.max(self.section_blocking(priority, entry, section));
-        }
-        most
-    }
-
-    /// By how many ticks a job of the second task, which has begun, keeps one of the first waiting, which is more urgent: by the
-    /// rest of a region, or of a critical section whose ceiling is no less urgent, after its first tick (Baker, 1991).
-    pub fn ceiling_blocking(&self, task: TaskId, lower: TaskId) -> u64
-        requires task { task.0 < length self.now.tasks }
-        requires lower { lower.0 < length self.now.tasks }
-        ensures value { result ≡ ceiling_blocking self.now task.0 lower.0 }
-        ensures in_range { result ≤ MAX_EXECUTION }
-    {
-        let priority = self.task(task).turn.priority();
-        let entry = self.task(lower);
-        let region = entry.region.min(entry.worst).saturating_sub(1);
-        region.max(self.blocking_by_sections(priority, lower))
     }
 }

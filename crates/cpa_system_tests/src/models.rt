@@ -273,30 +273,14 @@ fn ceilings_of(system: &System) -> Option<[u32; 3]> {
     ])
 }
 
-/// By how long the second and the third task keep a more urgent one waiting: the first, the first, and the second.
-fn waits_of(system: &System) -> Option<[u64; 3]> {
-    if system.tasks() != 4 {
-        return None;
-    }
-    Some([
-        system.ceiling_blocking(TaskId(0), TaskId(1)),
-        system.ceiling_blocking(TaskId(0), TaskId(2)),
-        system.ceiling_blocking(TaskId(1), TaskId(2)),
-    ])
-}
-
-/// The ceilings of a processor's locks, and by how long a task keeps a more urgent one waiting: by the rest of a region or of a section.
+/// The ceilings of a processor's locks.
 #[test]
 fn knows_ceilings(rt: HostRuntime) -> Result<(), Fail> {
     let alloc = rt.alloc();
     let system = read_system(alloc, LOCKED.as_bytes())?;
     let copy = system.copy(alloc)?;
     let ceilings = ceilings_of(&copy);
-    let waits = waits_of(&copy);
-    assert!(rt;
-        ceilings == Some([1, 3, 536_870_911]) && waits == Some([2, 4, 4]),
-        "{ceilings:?} {waits:?}"
-    );
+    assert!(rt; ceilings == Some([1, 3, 536_870_911]), "{ceilings:?}");
     Ok(())
 }
 
