@@ -4,7 +4,7 @@ import shlex
 import shutil
 import subprocess
 import sys
-from collections.abc import Mapping
+from collections.abc import Mapping, Sequence
 from pathlib import Path
 from typing import NoReturn
 
@@ -30,12 +30,14 @@ def often(program: str) -> str:
     return BINARY if program == LAUNCHER and is_built() else program
 
 
-def call(program: str, *words: str, given: str | None = None) -> tuple[int, str]:
-    """The status of a call, and what it writes; its standard input may be given. What it tells a terminal, as how far
-    a build is, goes there; what it would say beside its output is said by whoever calls."""
+def call(program: str, *words: str, opened: Sequence[int] = ()) -> tuple[int, str]:
+    """The status of a call, and what it writes; files that were opened may be handed over. What it tells a terminal, as
+    how far a build is, goes there; what it would say beside its output is said by whoever calls."""
     quiet = os.environ | {"LOKWURMI_QUIET": "1"}
     try:
-        done = subprocess.run([program, *words], input=given, stdout=subprocess.PIPE, text=True, check=False, env=quiet)
+        done = subprocess.run(
+            [program, *words], stdout=subprocess.PIPE, text=True, check=False, env=quiet, pass_fds=opened
+        )
     except OSError as fault:
         raise Fault(
             f"{program}: can't be called: {fault.strerror}. `./lokwurmi --version` builds nothing,"
