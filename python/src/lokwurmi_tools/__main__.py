@@ -12,6 +12,9 @@ from lokwurmi_tools.shared.packages import Missing, go_on
 from lokwurmi_tools.shared.pipes import Output, Patient
 from lokwurmi_tools.shared.streams import open_streams
 
+# the signals that end a command once it is tidied up
+ENDING = (signal.SIGTERM, signal.SIGHUP)
+
 
 def commands_text() -> str:
     """The commands, a line each."""
@@ -110,12 +113,14 @@ def perform(words: list[str]) -> int:
 
 
 def interrupted(number: int, _: object) -> NoReturn:
-    """Ends a command by a signal once its temporary files are gone."""
+    """Ends a command by a signal once its temporary files are gone. One more is passed over: `timeout` sends two."""
+    for it in ENDING:
+        signal.signal(it, signal.SIG_IGN)
     raise KeyboardInterrupt(number)
 
 
 def main() -> NoReturn:
-    for it in (signal.SIGTERM, signal.SIGHUP):
+    for it in ENDING:
         # under nohup a signal is ignored
         if signal.getsignal(it) is signal.SIG_DFL:
             signal.signal(it, interrupted)

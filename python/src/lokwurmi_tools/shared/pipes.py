@@ -7,6 +7,11 @@ from lokwurmi.model.statuses import Status
 from lokwurmi_tools.shared.faults import Fault
 
 
+def drop(stream: TextIO) -> None:
+    """Has nothing be left of a stream for the end of the process to write."""
+    os.dup2(os.open(os.devnull, os.O_WRONLY), stream.fileno())
+
+
 class Output:
     """A stream of text that ends the command where it can't be written; a reader that has enough is no such fault."""
 
@@ -30,8 +35,8 @@ class Output:
             raise self.fault(fault) from fault
 
     def fault(self, fault: OSError) -> Fault:
-        """What ends the command; nothing is left for the end of the process to write."""
-        os.dup2(os.open(os.devnull, os.O_WRONLY), self.stream.fileno())
+        """What ends the command."""
+        drop(self.stream)
         return Fault(f"the output can't be written: {fault.strerror}", Status.SINK_FAILED)
 
     def __getattr__(self, name: str) -> Any:
@@ -39,7 +44,8 @@ class Output:
 
 
 class Patient:
-    """A stream of text that takes what nobody reads any more, and keeps that it was so."""
+    """A stream of text that takes what nobody reads any more, and keeps that it was so. What can't be written, as to a
+    terminal that is gone, is lost."""
 
     def __init__(self, stream: TextIO):
         self.stream, self.is_left = stream, False
@@ -51,6 +57,8 @@ class Patient:
                 self.stream.flush()
             except BrokenPipeError:
                 self.is_left = True
+            except OSError:
+                drop(self.stream)
         return len(text)
 
     def flush(self) -> None:
