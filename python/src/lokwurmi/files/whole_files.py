@@ -1,5 +1,15 @@
 """Writes files whole, or not at all."""
+import contextlib
 import os
+
+
+def remove(file: str) -> None:
+    """Takes a file away, or what is in it, where its folder can't be written."""
+    try:
+        os.unlink(file)
+    except OSError:
+        with contextlib.suppress(OSError):
+            os.truncate(file, 0)
 
 
 def write_whole(file: str | os.PathLike[str], data: bytes) -> None:
@@ -9,6 +19,6 @@ def write_whole(file: str | os.PathLike[str], data: bytes) -> None:
         with it:
             it.write(data)
     except BaseException:
-        if os.path.isfile(file) and not os.fspath(file).startswith(("/dev/", "/proc/")):
-            os.unlink(os.path.realpath(file))
+        if os.path.isfile(file) and not os.fspath(file).startswith(("/dev/fd/", "/dev/std", "/proc/")):
+            remove(os.path.realpath(file))
         raise
