@@ -295,7 +295,7 @@ def found_by(check: Check, until: float | None, least: float = LEAST_SECONDS) ->
         return Found(check, "skipped", "no time is left")
     # a signal that is passed over here, as the end of the terminal under nohup, isn't by what is checked
     work = subprocess.Popen(
-        ["env", "--default-signal", "sh", "-c", call_of(check)],
+        ["env", "--default-signal", f"PYTHON={PYTHON}", "sh", "-c", call_of(check)],
         cwd=TOP,
         stdin=subprocess.DEVNULL,
         stdout=subprocess.PIPE,

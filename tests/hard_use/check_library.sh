@@ -71,6 +71,6 @@ else
 fi
 "$room/library_refused" examples/car_network.toml || fault "library_refused"
 "$room/library_threads" examples/car_network.toml || fault "library_threads"
-LOKWURMI_PROGRAM=$program LOKWURMI_SYSTEMS=${LOKWURMI_SYSTEMS:-500} PYTHONPATH=python/src:python/tests python3 -m unittest discover -s python/tests || fault "tests of the package"
+LOKWURMI_PROGRAM=$program LOKWURMI_SYSTEMS=${LOKWURMI_SYSTEMS:-500} PYTHONPATH=python/src:python/tests "${PYTHON:-python3}" -m unittest discover -s python/tests || fault "tests of the package"
 echo "$faults faults, $skipped skipped"
 ((faults == 0))
