@@ -388,8 +388,20 @@ def check_types(room):
         # in bits of 2 us: 48 + 33 + 64 to 57 + 34 + 80 with 29 bits, and 29 + 33 + 64 to 34 + 34 + 80 with 11
         wanted = {"a": (290, 342, None), "b": (252, 296, None), "c": (None, None, True)}
         hold(found == wanted and {it["period"] for it in system["source"]} == {10_000}, f"{name}: {found} {told}")
-    file = written(room, "short.json", MESSAGES.replace('"length": 8, "is_extended_frame"', '"is_extended_frame"'))
-    hold("message c has no length" in said_by("import network", file, "--bitrate", 500000), "short.json")
+    for before, after, said in (
+        ('"length": 8, "is_extended_frame"', '"is_extended_frame"', "message c has no length"),
+        ('"length": 8, "is_fd": true', '"length": 8, "is_fd": "true"', "message a: is_fd is 'true': it is true or f"),
+        ('{"GenMsgCycleTime": 10}', "[10]", "message c: its attributes are no table of keys and values"),
+        ('"GenMsgDelayTime": null', '"CANFD_BRS": "perhaps"', "a: its CANFD_BRS is perhaps: it is 1 where the frame"),
+    ):
+        file = written(room, "bad.json", MESSAGES.replace(before, after))
+        told = said_by("import network", file, "--bitrate", 500000)
+        hold(said in told, told)
+    # none of them switches, so no bit rate of a data phase is needed
+    text = MESSAGES.replace('"GenMsgCycleTime": "10"', '"GenMsgCycleTime": "10", "CANFD_BRS": false')
+    system, told, _ = imported(written(room, "slow.json", text), "--bitrate", 500000)
+    found = {it["name"]: (it.get("best"), it.get("worst")) for it in system.get("task", [])}
+    hold(found == {"a": (290, 342), "b": (252, 296), "c": (None, None)}, f"slow.json: {found} {told}")
 
 
 def check_lacking(room):

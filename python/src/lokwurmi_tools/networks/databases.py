@@ -30,6 +30,8 @@ from lokwurmi_tools.shared.times import LEAST_RATE, UNITS
 
 # the attributes of a cycle time besides that of the period
 FASTER = ("GenMsgCycleTimeFast", "GenMsgCycleTimeActive")
+# the words of an attribute that is true or not
+YES, NO = ("1", "on", "true", "yes"), ("0", "off", "false", "no")
 # the endings of spreadsheets
 SHEETS = (".xls", ".xlsx")
 # what canmatrix has to say goes into the report, and not past it
@@ -228,6 +230,14 @@ def matrices_in(file: str, attributes: Collection[str]) -> tuple[dict[str, Any],
     return found, list(dict.fromkeys(said)), lost
 
 
+def switches_of(frame: Any, matrix: Any) -> bool:
+    """Whether a frame of CAN FD switches its bit rate, which it does where none tells."""
+    word = str(attribute(frame, matrix, SWITCH) or "1")
+    if word.lower() not in (*NO, *YES):
+        raise Fault(f"{frame.name}: its {SWITCH} is {word}: it is 1 where the frame switches its bit rate, and else 0")
+    return word.lower() in YES
+
+
 def frame_of(frame: Any, matrix: Any, bus: str, name: str) -> Frame:
     cycle, why, by_default = cycle_of(frame, matrix)
     delay = time_in(attribute(frame, matrix, "GenMsgDelayTime"), f"{frame.name}: its GenMsgDelayTime")
@@ -239,7 +249,7 @@ def frame_of(frame: Any, matrix: Any, bus: str, name: str) -> Frame:
         extended=bool(frame.arbitration_id.extended),
         size=bytes_of(frame),
         is_fd=bool(frame.is_fd) or "_FD" in str(attribute(frame, matrix, FORMAT)),
-        switches=str(attribute(frame, matrix, SWITCH) or "1") not in ("0", "off", "Off"),
+        switches=switches_of(frame, matrix),
         values=max(1, len(frame.get_multiplexer_values)) if frame.is_multiplexed else 0,
         cycle=cycle,
         cycle_by=why,

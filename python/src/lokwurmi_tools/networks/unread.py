@@ -202,15 +202,21 @@ def check_said(file: str, text: str, said: list[str]) -> list[str]:
 
 def complete_json(file: str, frames: list[Any]) -> int:
     """Gives each frame of a JSON file what canmatrix leaves out there: whether it is one of CAN FD, and its attributes;
-    how many frames the file has. One without a length is refused, as canmatrix takes it for 8 bytes."""
+    how many frames the file has. One without a length is refused, as canmatrix takes it for 8 bytes, and so is one of
+    which it isn't plain what it is."""
     with open(file, encoding="utf-8") as it:
         messages = json.load(it).get("messages", [])
     for message, frame in zip(messages, frames):
         if "length" not in message:
             says = 'has no length: give it one in bytes, as "length": 8'
             raise Fault(f"{file}: message {frame.name} {says}")
-        frame.is_fd = message.get("is_fd") is True
+        for key in ("is_fd", "is_extended_frame"):
+            if message.get(key) not in (None, True, False):
+                raise Fault(f"{file}: message {frame.name}: {key} is {message[key]!r}: it is true or false")
         told = message.get("attributes") or {}
+        if not isinstance(told, dict):
+            raise Fault(f"{file}: message {frame.name}: its attributes are no table of keys and values")
+        frame.is_fd = bool(message.get("is_fd"))
         frame.attributes.update({key: str(value) for key, value in told.items() if value is not None})
     return len(messages)
 
