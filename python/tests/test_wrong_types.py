@@ -81,6 +81,7 @@ class WrongTypes(unittest.TestCase):
             self.refused(lambda: generated_system(1, it), "a size is a whole number")
         for row in (("event", "s,1\nevent", "s"), ("event", "s\n", 1)):
             self.refused(lambda: small().simulate([row]), "neither a comma nor a line end")
+        need_engine()
         half = "\ud800"
         for call in (small().slack, small().simulate, small().chains, small().session):
             self.refused(lambda: call(half), "half of a pair")
