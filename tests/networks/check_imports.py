@@ -18,6 +18,7 @@ from fractions import Fraction
 import lxml.etree
 
 from lokwurmi.frames import classical, execution
+from lokwurmi_tools.networks.arxml_lines import ArxmlFrames
 from lokwurmi_tools.networks.buses import named, plain
 from lokwurmi_tools.shared.times import common, text_of, time_of
 from tests.support.calls import hold, written
@@ -372,6 +373,24 @@ def check_flexible(room):
         hold(re.search(r"bad.arxml: line \d+: frame FRAME_a of bus body: CAN-F.* is (perhaps|FD): it is ", told), told)
 
 
+CONTROLLER = """<CAN-COMMUNICATION-CONTROLLER><SHORT-NAME>%s</SHORT-NAME><CAN-CONTROLLER-FD-CONFIGURATION>
+<TX-BIT-RATE-SWITCH>%s</TX-BIT-RATE-SWITCH></CAN-CONTROLLER-FD-CONFIGURATION></CAN-COMMUNICATION-CONTROLLER>"""
+CONNECTOR = """<CAN-COMMUNICATION-CONNECTOR><SHORT-NAME>%s</SHORT-NAME>
+<COMM-CONTROLLER-REF>%s</COMM-CONTROLLER-REF><FRAME-PORT><SHORT-NAME>out</SHORT-NAME>
+<COMMUNICATION-DIRECTION>OUT</COMMUNICATION-DIRECTION></FRAME-PORT></CAN-COMMUNICATION-CONNECTOR>"""
+
+
+def check_controllers(_):
+    """A gateway whose frames switch on one of its buses alone: each goes by the controller of its connector."""
+    parts = [CONTROLLER % ("quick", "true"), CONTROLLER % ("slow", "false")]
+    parts += [CONNECTOR % it for it in (("to_quick", "/Gate/quick"), ("to_slow", "/Gate/slow"), ("lost", "/none"))]
+    root = lxml.etree.fromstring(f"<AR><ECU-INSTANCE><SHORT-NAME>Gate</SHORT-NAME>{''.join(parts)}</ECU-INSTANCE></AR>")
+    for name, wanted in (("to_quick", True), ("to_slow", False), ("lost", False)):
+        text = f"<CAN-FRAME-TRIGGERING><FRAME-PORT-REF>/Gate/{name}/out</FRAME-PORT-REF></CAN-FRAME-TRIGGERING>"
+        found = ArxmlFrames("gate.arxml", root).switches_of(lxml.etree.fromstring(text), "a frame")
+        hold(found is wanted, f"the bit rate by {name}: {found}")
+
+
 def check_clusters(room):
     """An ARXML file of two clusters, which share a frame that has another identifier on each."""
     file = dumped(
@@ -484,6 +503,7 @@ if __name__ == "__main__":
         check_buses,
         check_arxml,
         check_flexible,
+        check_controllers,
         check_clusters,
         check_shipped,
     )

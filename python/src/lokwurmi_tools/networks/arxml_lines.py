@@ -153,11 +153,19 @@ class ArxmlFrames:
         received = text_of(triggering, "CAN-FRAME-RX-BEHAVIOR")
         return behaviour == "CAN-FD" if behaviour else is_supported or received == "CAN-FD"
 
+    def controllers_of(self, triggering: Any) -> Iterator[Any]:
+        """The controllers by which a frame goes out, or their stations where a connector names none: one has a
+        controller for each of its buses."""
+        for path, station in self.stations_of(triggering):
+            connectors = self.paths[path].iterancestors("{*}CAN-COMMUNICATION-CONNECTOR")
+            named = (self.paths.get(text_of(it, "COMM-CONTROLLER-REF") or "") for it in connectors)
+            yield next((it for it in named if it is not None), station)
+
     def switches_of(self, triggering: Any, what: str) -> bool | None:
-        """Whether a frame of CAN FD switches its bit rate: not where a controller of a station that sends it, of any
-        where none is named, doesn't; None where none tells."""
-        stations = [it for _, it in self.stations_of(triggering)] or [self.root]
-        told = [self.truth_of(it, what) for one in stations for it in one.iter("{*}TX-BIT-RATE-SWITCH")]
+        """Whether a frame of CAN FD switches its bit rate: not where a controller that sends it, any where none is
+        named, doesn't; None where none tells."""
+        controllers = list(self.controllers_of(triggering)) or [self.root]
+        told = [self.truth_of(it, what) for one in controllers for it in one.iter("{*}TX-BIT-RATE-SWITCH")]
         return all(told) if told else None
 
     def triggerings(self, cluster: Any) -> Iterator[Triggered]:
