@@ -39,14 +39,21 @@ class WholeFiles(unittest.TestCase):
                 self.refused(Path(room, "link"))
                 self.assertEqual(os.listdir(room), ["link"])
 
+    def test_before(self) -> None:
+        """What was in a file stays in it."""
+        with tempfile.TemporaryDirectory() as room:
+            file, link = Path(room, "file"), Path(room, "link")
+            file.write_text("before")
+            link.symlink_to("file")
+            for one in (file, link):
+                self.refused(one)
+                self.assertEqual((file.read_bytes(), link.is_symlink()), (b"before", True))
+
     def test_folder(self) -> None:
         """From a folder that can't be written no file can be taken, but nothing stays in it."""
-        with tempfile.TemporaryDirectory() as room:
-            file = Path(room, "file")
-            file.write_text("before")
-            with mock.patch("os.unlink", side_effect=PermissionError):
-                self.refused(file)
-            self.assertEqual(file.read_bytes(), b"")
+        with tempfile.TemporaryDirectory() as room, mock.patch("os.unlink", side_effect=PermissionError):
+            self.refused(Path(room, "file"))
+            self.assertEqual(Path(room, "file").read_bytes(), b"")
 
     def test_in_place(self) -> None:
         """What is written through a link has the permissions that it had."""

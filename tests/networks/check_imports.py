@@ -20,6 +20,7 @@ import lxml.etree
 from lokwurmi.frames import classical, execution
 from lokwurmi_tools.networks.arxml_lines import ArxmlFrames
 from lokwurmi_tools.networks.buses import named, plain
+from lokwurmi_tools.shared.faults import Fault
 from lokwurmi_tools.shared.times import common, text_of, time_of
 from tests.support.calls import hold, written
 from tests.support.databases import (
@@ -337,6 +338,7 @@ def check_arxml(room):
 
 FLEXIBLE = "<CAN-FRAME-TX-BEHAVIOR>CAN-FD</CAN-FRAME-TX-BEHAVIOR>"
 SUPPORT = "<CAN-FD-FRAME-SUPPORT>%s</CAN-FD-FRAME-SUPPORT>"
+ANY = "<CAN-FRAME-RX-BEHAVIOR>ANY</CAN-FRAME-RX-BEHAVIOR>"
 SWITCH = "<TX-BIT-RATE-SWITCH>%s</TX-BIT-RATE-SWITCH>"
 # 29 to 34 bits of 2 us, and 33 + 64 to 34 + 80 of half a us where the frame switches its bit rate, else of 2 us
 SWITCHED, UNSWITCHED, CLASSICAL = (106, 125, None), (252, 296, None), (None, None, 8)
@@ -356,7 +358,11 @@ def check_flexible(room):
         (SUPPORT % "true", "", SWITCHED),
         (FLEXIBLE, SWITCH % "true", SWITCHED),
         (FLEXIBLE, SWITCH % "false", UNSWITCHED),
-        (SUPPORT % "TRUE", SWITCH % "true" + SWITCH % "0", UNSWITCHED),
+        (SUPPORT % "TRUE", SWITCH % "0" + SWITCH % "false", UNSWITCHED),
+        (FLEXIBLE.replace("FD", "20"), SWITCH % "true" + SWITCH % "false", CLASSICAL),
+        (ANY, "", CLASSICAL),
+        (ANY + FLEXIBLE, "", SWITCHED),
+        (SUPPORT % "true" + ANY, "", SWITCHED),
     ):
         text = re.sub("(<IDENTIFIER>)", of_frame + r"\1", plain)
         station = f"<ELEMENTS><ECU-INSTANCE><SHORT-NAME>Motor</SHORT-NAME>{of_station}</ECU-INSTANCE></ELEMENTS>"
@@ -367,10 +373,25 @@ def check_flexible(room):
         hold(found == [wanted], f"{of_frame} {of_station}: {found} {told}")
         is_told = "as the file doesn't tell whether it does" in told
         hold(is_told == (wanted == SWITCHED and not of_station), f"{of_frame} {of_station}: {told}")
-    for bad in (SUPPORT % "perhaps", "<CAN-FRAME-TX-BEHAVIOR>FD</CAN-FRAME-TX-BEHAVIOR>"):
+    for bad, cluster, says in (
+        (SUPPORT % "perhaps", "", "CAN-FD-FRAME-SUPPORT is perhaps: it is true or false"),
+        (FLEXIBLE.replace("CAN-FD<", "FD<"), "", "CAN-FRAME-TX-BEHAVIOR is FD: it is CAN-20 or CAN-FD"),
+        (ANY.replace("ANY", "SOME"), "", "CAN-FRAME-RX-BEHAVIOR is SOME: it is CAN-20 or CAN-FD or ANY"),
+        (
+            ANY,
+            "<CAN-FD-BAUDRATE>2000000</CAN-FD-BAUDRATE>",
+            "CAN-FRAME-RX-BEHAVIOR is ANY: whether it is one of CAN FD",
+        ),
+        (
+            FLEXIBLE,
+            SWITCH % "true" + SWITCH % "false",
+            "it goes out of no port, and controllers differ in TX-BIT-RATE-S",
+        ),
+    ):
         text = re.sub("(<IDENTIFIER>)", bad + r"\1", plain)
+        text = re.sub("(<CAN-CLUSTER>)", r"\1" + cluster, text)
         told = said_by("import network", written(room, "bad.arxml", text), "--bitrate", 500000)
-        hold(re.search(r"bad.arxml: line \d+: frame FRAME_a of bus body: CAN-F.* is (perhaps|FD): it is ", told), told)
+        hold(re.search(r"bad.arxml: line \d+: frame FRAME_a of bus body: " + says, told), told)
 
 
 CONTROLLER = """<CAN-COMMUNICATION-CONTROLLER><SHORT-NAME>%s</SHORT-NAME><CAN-CONTROLLER-FD-CONFIGURATION>
@@ -385,10 +406,20 @@ def check_controllers(_):
     parts = [CONTROLLER % ("quick", "true"), CONTROLLER % ("slow", "false")]
     parts += [CONNECTOR % it for it in (("to_quick", "/Gate/quick"), ("to_slow", "/Gate/slow"), ("lost", "/none"))]
     root = lxml.etree.fromstring(f"<AR><ECU-INSTANCE><SHORT-NAME>Gate</SHORT-NAME>{''.join(parts)}</ECU-INSTANCE></AR>")
-    for name, wanted in (("to_quick", True), ("to_slow", False), ("lost", False)):
-        text = f"<CAN-FRAME-TRIGGERING><FRAME-PORT-REF>/Gate/{name}/out</FRAME-PORT-REF></CAN-FRAME-TRIGGERING>"
-        found = ArxmlFrames("gate.arxml", root).switches_of(lxml.etree.fromstring(text), "a frame")
-        hold(found is wanted, f"the bit rate by {name}: {found}")
+    frames = ArxmlFrames("gate.arxml", root)
+    for names, wanted in (
+        (["to_quick"], True),
+        (["to_slow"], False),
+        (["to_slow", "to_quick"], "controllers that send it differ in TX-BIT-RATE-SWITCH"),
+        (["lost"], "controllers that send it differ in TX-BIT-RATE-SWITCH"),
+    ):
+        ports = "".join(f"<FRAME-PORT-REF>/Gate/{it}/out</FRAME-PORT-REF>" for it in names)
+        frame = lxml.etree.fromstring(f"<CAN-FRAME-TRIGGERING>{ports}</CAN-FRAME-TRIGGERING>")
+        try:
+            found = frames.switches_of(frame, "frame a")
+            hold(found is wanted, f"the bit rate by {names}: {found}")
+        except Fault as fault:
+            hold(str(wanted) in str(fault), f"the bit rate by {names}: {fault}")
 
 
 def check_clusters(room):

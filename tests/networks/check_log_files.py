@@ -240,10 +240,17 @@ CSV = """timestamp,arbitration_id,extended,remote,error,dlc,data
 
 
 def check_passed_over(room):
-    """What python-can passes over in .trc and .csv files is refused; error frames of candump of each kind are none."""
-    for name, text in (("whole.trc", TRC), ("whole.csv", CSV), ("old.trc", OLD_TRC)):
+    """What python-can passes over in .trc and .csv files is refused or told; error frames of candump of each kind are
+    none."""
+    for name, text, told in (
+        ("whole.trc", TRC, "1 warnings of the recorder"),
+        ("errors.trc", TRC.replace(" ST ", " ER "), "1 error frames"),
+        ("whole.csv", CSV, ""),
+        ("old.trc", OLD_TRC, "1 warnings of the recorder"),
+    ):
         done = called("import log", written(room, name, text))
-        hold('x010.seen", period = 10000' in done.stdout, f"{name}: {done.stdout} {done.stderr}")
+        found = 'x010.seen", period = 10000' in done.stdout and told in done.stderr and bool(told) == bool(done.stderr)
+        hold(found, f"{name}: {done.stdout} {done.stderr}")
     cases = (
         ("line 5: `3        20.000 FB 1", [written(room, "fd.trc", TRC.replace("20.000 DT", "20.000 FB"))]),
         ("line 6: `4        30.000 RR 1", [written(room, "remote.trc", TRC.replace("30.000 DT", "30.000 RR"))]),

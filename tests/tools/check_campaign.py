@@ -196,7 +196,7 @@ def kept_folders(slow, keep):
     hold(done.returncode == 2 and "another program" in done.stderr, "a folder of another program is refused")
     done = campaign(slow, "hammer", CAR, "--traces", 5, "--resume", keep)
     hold(done.returncode == 2 and "another system file" in done.stderr, "a folder of another system is refused")
-    no_answers = ("null", "[0, 5]", '[0, ""]', '[0, "no summary"]')
+    no_answers = ("null", "[0, 5]", '[0, ""]', '[0, "no summary"]', '["0", "summary "]', '[0.5, "summary "]')
     for line in [f'{{"key": "hammer 1 5", "answer": {it}}}' for it in no_answers] + ["what is this"]:
         with open(os.path.join(keep, "done.jsonl"), "a") as it:
             whole = it.tell()

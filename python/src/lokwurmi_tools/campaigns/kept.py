@@ -47,9 +47,9 @@ class KeptAnswers:
                 it = json.loads(line)
                 if place:
                     status, text = it["answer"]
-                    if int(status) < 10 and not text.splitlines()[-1].startswith("summary "):
+                    if type(status) is not int or status < 10 and not text.splitlines()[-1].startswith("summary "):
                         raise ValueError
-                    self.answers[it["key"]] = zlib.compress(json.dumps([int(status), text + ""]).encode())
+                    self.answers[it["key"]] = zlib.compress(json.dumps([status, text + ""]).encode())
                 elif other := [name for name in campaign if it[name] != campaign[name]]:
                     raise Wrong(
                         f"{self.folder}: is of a campaign with another {other[0]}:"

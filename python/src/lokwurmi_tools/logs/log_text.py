@@ -4,11 +4,13 @@ candump that is none."""
 import gzip
 import os
 import re
+from collections import Counter
 from collections.abc import Iterator
 from typing import Any
 
 from lokwurmi_tools.shared.faults import Fault
 
+ERRORS, WARNINGS = "error frames", "warnings of the recorder"
 # a frame as `candump -l` writes it: a time, a channel, an identifier of 3 digits up to 7FF or of 8, and data
 _CANDUMP = re.compile(
     r"\(\d+\.(\d+)\) \S+ ([0-7][0-9A-F]{2}|[01][0-9A-F]{7}|2[0-9A-F]{7})#"
@@ -35,6 +37,8 @@ _TRC: dict[str, tuple[tuple[str, ...], tuple[str, ...]]] = {
     "2.1": (("DT",), ("ST", "EC", "ER", "EV")),
 }
 _TRC_COLUMNS = "N,O,T,B,I,d,R,L,D"
+# what of the latter is told
+_TRC_TOLD = {"Error": ERRORS, "ER": ERRORS, "FFFFFFFF": WARNINGS, "Warng": WARNINGS, "ST": WARNINGS}
 
 
 def rows_of(file: str) -> Iterator[tuple[int, str]]:
@@ -77,24 +81,38 @@ def check_asc(file: str) -> int:
     return count
 
 
-def check_trc(file: str) -> int:
-    """Refuses a frame that python-can passes over, and a version that it doesn't know; how many frames there are."""
-    count, version = 0, "1.0"
+def trc_rows(file: str) -> Iterator[tuple[int, str, str, str]]:
+    """The lines of a .trc file that aren't of its head: their numbers, their texts, the version, and their kinds. One of
+    a version that python-can doesn't know is refused."""
+    version = "1.0"
     for place, line in rows_of(file):
         key, _, value = line.partition("=")
         if key == ";$FILEVERSION":
             version = value
         if key == ";$FILEVERSION" and value not in _TRC or key == ";$COLUMNS" and value != _TRC_COLUMNS:
             raise fault(file, place, line, f"of version 1.0, 1.1, or 2.1 with the columns {_TRC_COLUMNS}")
-        if not line or line.startswith(";"):
-            continue
-        kind = (line.split() + ["", "", ""])[2]
+        if line and not line.startswith(";"):
+            yield place, line, version, (line.split() + ["", "", ""])[2]
+
+
+def check_trc(file: str) -> int:
+    """Refuses a frame that python-can passes over; how many frames there are."""
+    count = 0
+    for place, line, version, kind in trc_rows(file):
         frames, others = _TRC[version]
         if frames and kind not in (*frames, *others):
             form = f"of a frame that python-can reads there ({', '.join(frames)}): write the log anew as .asc or .blf"
             raise fault(file, place, line, form)
         count += kind not in others
     return count
+
+
+def passed_over(file: str) -> Counter[str]:
+    """How many errors and warnings a .trc file has, over which python-can passes."""
+    if not file.lower().removesuffix(".gz").endswith(".trc"):
+        return Counter()
+    kinds = (kind for _, _, version, kind in trc_rows(file) if kind in _TRC[version][1])
+    return Counter(_TRC_TOLD[kind] for kind in kinds if kind in _TRC_TOLD)
 
 
 def check_csv(file: str) -> int:

@@ -14,7 +14,7 @@ from itertools import pairwise, repeat
 from can.io.player import LogReader
 from can.message import Message
 
-from lokwurmi_tools.logs.log_text import check_read, errors_in, frames_in
+from lokwurmi_tools.logs.log_text import ERRORS, WARNINGS, check_read, errors_in, frames_in, passed_over
 from lokwurmi_tools.shared.faults import Fault
 from lokwurmi_tools.shared.progress import Progress
 from lokwurmi_tools.shared.times import UNITS
@@ -27,7 +27,8 @@ MOST_TIME = 2**53
 UNSORTED = "frames before an earlier one of their channel"
 # what is told of messages that aren't plain frames
 NOTES = {
-    "error frames": ": after an error a frame is sent again, which only a bound with --errors counts",
+    ERRORS: ": after an error a frame is sent again, which only a bound with --errors counts",
+    WARNINGS: ", as of its queue that was full, or of a bus that was off: frames may lack there",
     "remote frames": " aren't taken",
     "CAN FD frames": (
         " are taken as such; where these are classical ones, as python-can has all of newer .asc files: --classical"
@@ -55,8 +56,8 @@ class Log:
     last: int = 0
     has_fd: bool = False  # whether a frame is in a line of CAN FD
 
-    def add(self, what: str) -> None:
-        self.counts[what] = self.counts.get(what, 0) + 1
+    def add(self, what: str, count: int = 1) -> None:
+        self.counts[what] = self.counts.get(what, 0) + count
 
     def every(self, channel: str) -> Iterable[tuple[int, Key]]:
         """All frames of a channel, by their times."""
@@ -101,7 +102,7 @@ def messages_in(file: str) -> Iterator[Message]:
 def left_out(message: Message) -> str | None:
     """What a message is that isn't taken, or None."""
     if message.is_error_frame:
-        return "error frames"
+        return ERRORS
     return "remote frames" if message.is_remote_frame else None
 
 
@@ -174,6 +175,8 @@ def read_log(file: str, tick: Fraction, drift: float, classical: bool, sort: boo
     reader = LogBuilder(file, tick, drift, classical, sort)
     for message in messages_in(file):
         reader.add(message)
+    for what, count in passed_over(file).items():
+        reader.log.add(what, count)
     return reader.whole()
 
 

@@ -19,6 +19,9 @@ _UNSTEADY = (
     "RELATIVE-TOLERANCE",
 )
 
+# of which type a frame is where it is sent, and where it is received
+_BEHAVIOURS = {"CAN-FRAME-TX-BEHAVIOR": ("CAN-20", "CAN-FD"), "CAN-FRAME-RX-BEHAVIOR": ("CAN-20", "CAN-FD", "ANY")}
+
 
 def text_of(element: Any, key: str) -> str | None:
     """The text of a child, or None where there is no such child."""
@@ -144,14 +147,25 @@ class ArxmlFrames:
 
     def is_flexible(self, triggering: Any, what: str) -> bool:
         """Whether a triggered frame is one of CAN FD: as it is sent, where that is told."""
-        behaviour = text_of(triggering, "CAN-FRAME-TX-BEHAVIOR")
-        if behaviour not in (None, "CAN-20", "CAN-FD"):
-            says = f"{what}: CAN-FRAME-TX-BEHAVIOR is {behaviour or 'empty'}: it is CAN-20 or CAN-FD"
-            raise self.fault(triggering, says)
+        behaviour, received = (self.behaviour_of(triggering, it, what) for it in _BEHAVIOURS)
         support = triggering.find("{*}CAN-FD-FRAME-SUPPORT")
         is_supported = support is not None and self.truth_of(support, what)
-        received = text_of(triggering, "CAN-FRAME-RX-BEHAVIOR")
+        if received == "ANY" and behaviour is None and not is_supported and self.has_fd(triggering):
+            says = f"{what}: CAN-FRAME-RX-BEHAVIOR is ANY: whether it is one of CAN FD is told by CAN-FRAME-TX-BEHAVIOR"
+            raise self.fault(triggering, says)
         return behaviour == "CAN-FD" if behaviour else is_supported or received == "CAN-FD"
+
+    def behaviour_of(self, triggering: Any, key: str, what: str) -> str | None:
+        """Of which type a frame is where it is sent, or where it is received, or None where that isn't told."""
+        word = text_of(triggering, key)
+        if word not in (None, *_BEHAVIOURS[key]):
+            raise self.fault(triggering, f"{what}: {key} is {word or 'empty'}: it is {' or '.join(_BEHAVIOURS[key])}")
+        return word
+
+    def has_fd(self, triggering: Any) -> bool:
+        """Whether the cluster of a frame has frames of CAN FD: it has a bit rate of their data phase."""
+        clusters = triggering.iterancestors("{*}CAN-CLUSTER")
+        return any(it.find(".//{*}CAN-FD-BAUDRATE") is not None for it in clusters)
 
     def controllers_of(self, triggering: Any) -> Iterator[Any]:
         """The controllers by which a frame goes out, or their stations where a connector names none: one has a
@@ -162,11 +176,17 @@ class ArxmlFrames:
             yield next((it for it in named if it is not None), station)
 
     def switches_of(self, triggering: Any, what: str) -> bool | None:
-        """Whether a frame of CAN FD switches its bit rate: not where a controller that sends it, any where none is
-        named, doesn't; None where none tells."""
-        controllers = list(self.controllers_of(triggering)) or [self.root]
-        told = [self.truth_of(it, what) for one in controllers for it in one.iter("{*}TX-BIT-RATE-SWITCH")]
-        return all(told) if told else None
+        """Whether a frame of CAN FD switches its bit rate: as the controllers that send it say, or all where none is
+        named; None where none tells."""
+        controllers = list(self.controllers_of(triggering))
+        elements = [it for one in controllers or [self.root] for it in one.iter("{*}TX-BIT-RATE-SWITCH")]
+        told = {self.truth_of(it, what) for it in elements}
+        if len(told) > 1:
+            which = (
+                "controllers that send it differ" if controllers else "it goes out of no port, and controllers differ"
+            )
+            raise self.fault(triggering, f"{what}: {which} in TX-BIT-RATE-SWITCH, and its best and worst with them")
+        return told.pop() if told else None
 
     def triggerings(self, cluster: Any) -> Iterator[Triggered]:
         """The frames of a cluster."""
@@ -187,8 +207,9 @@ class ArxmlFrames:
                 units = self.units_of(frame, what)
                 period = min((at for at in self.periods_of(units, what) if at), default=Fraction(0))
                 offset = self.offset_of(units)
-            kind = self.is_flexible(it, what), self.switches_of(it, what)
-            yield Triggered(name, number, is_long, size, period, offset, self.senders_of(it), *kind)
+            is_flexible = self.is_flexible(it, what)
+            switches = self.switches_of(it, what) if is_flexible else None
+            yield Triggered(name, number, is_long, size, period, offset, self.senders_of(it), is_flexible, switches)
 
     def lost(self) -> list[str]:
         """The frames of the file that nothing triggers; one that is triggered beside the clusters is refused."""
