@@ -98,6 +98,7 @@ def built(crate: str) -> str:
     """The program of a crate, which is built first where it isn't there, unless only help is asked for."""
     program = os.path.join(TOP, "crates", crate, "out", crate)
     if not os.path.exists(program) and not {"-h", "--help"}.intersection(sys.argv):
+        print(f"{program} isn't there: `rt run` builds it now, which may take an hour", file=sys.stderr)
         subprocess.run(["rt", "run"], cwd=os.path.join(TOP, "crates", crate), capture_output=True, check=False)
     return program
 
