@@ -82,8 +82,8 @@ def check_asc(file: str) -> int:
 
 
 def trc_rows(file: str) -> Iterator[tuple[int, str, str, str]]:
-    """The lines of a .trc file that aren't of its head: their numbers, their texts, the version, and their kinds. One of
-    a version that python-can doesn't know is refused."""
+    """The lines of a .trc file that aren't of its head: their numbers, their texts, the version, and their kinds. A
+    file of a version that python-can doesn't know is refused."""
     version = "1.0"
     for place, line in rows_of(file):
         key, _, value = line.partition("=")
