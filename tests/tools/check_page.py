@@ -34,7 +34,14 @@ from tests.tools.page_contents import (
     check_numbers,
 )
 from tests.tools.page_layout import check_filters, check_letters, check_names, check_sorting, check_views
-from tests.tools.page_options import check_chain_searches, check_chains, check_helps, check_searches, check_times
+from tests.tools.page_options import (
+    check_chain_searches,
+    check_chains,
+    check_helps,
+    check_no_order,
+    check_searches,
+    check_times,
+)
 from tests.tools.page_widths import check_wide
 from tests.tools.pages import Pages, example, schedule_of
 
@@ -121,6 +128,7 @@ def main():
             check_times(words.program, pages.page)
             check_helps(words.program, pages.page)
             check_searches(words.program, pages.page)
+            check_no_order(pages.page)
         finally:
             pages.browser.close()
         check_causes(room, words.program)

@@ -98,6 +98,16 @@ def check_chain_searches(room, program, page_of):
     page.hold("an effect chain may miss its own by then" in page.text("#margins"), "that chains don't count isn't told")
 
 
+def check_no_order(page_of):
+    """Where no order can do a page says so, and why: here a task waits for the pedal, which may never be pressed."""
+    page = page_of(
+        "no_order", example("brake_pedal", ".toml"), "--chains", example("brake_pedal", ".chains.toml"), "--optimise"
+    )
+    said = page.text("#priorities")
+    wanted = "No order can do: source pedal (line "
+    page.hold(wanted in said and "is sporadic" in said and "there may be one still" not in said, f"no order: {said}")
+
+
 def check_parts(page, rows):
     """The parts of each bar of a chain: as long as what they tell, and their sum is the bound."""
     for place, row in enumerate(rows):

@@ -13,11 +13,10 @@ from lokwurmi_tools.search.margin_question import KINDS, MarginQuestion
 from lokwurmi_tools.search.margin_texts import CLOCKS, OFFSETS, REGIONS, name_of, share_text, then_of, value_of
 from lokwurmi_tools.search.margins import rows_of
 from lokwurmi_tools.search.priorities import PriorityOptions, PrioritySearch
-from lokwurmi_tools.search.priority_texts import chains_told
+from lokwurmi_tools.search.priority_texts import chains_told, hindrances_of
 from lokwurmi_tools.shared.analysed import Analysed
 from lokwurmi_tools.shared.program import written_by
 from lokwurmi_tools.shared.report import reports_in
-from lokwurmi_tools.shared.tables import percent_above
 from lokwurmi_tools.shared.times import Scale
 from lokwurmi_tools.shared.types import Values
 
@@ -117,7 +116,7 @@ def priorities_of(known: Analysed, chains: ChainGoals | None) -> Values:
         "order": search.changed(),
         "edits": search.script(),
         "chains": chains_told(search, verdict),
-        "overloaded": [{"on": on, "load": percent_above(share)} for on, share in search.view.overloaded().items()],
+        "hindrances": hindrances_of(search, verdict),
     }
 
 

@@ -49,6 +49,18 @@ def json_text(search: PrioritySearch, verdict: OrderVerdict) -> str:
     return json.dumps({**found, **late, "order": search.changed(), "edits": search.script(), **chains}, indent=1)
 
 
+def hindrances_of(search: PrioritySearch, verdict: OrderVerdict) -> list[str]:
+    """Why no order can do, a sentence each; none where the search proves nothing about other orders."""
+    several = [
+        f"the utilisation of {on} is {percent_above(share)} %, whatever the priorities are"
+        for on, share in search.view.overloaded().items()
+    ]
+    several += search.silences()
+    if not verdict.holds and not search.has_orders():
+        several.append("no two tasks of a resource have priorities that could change places")
+    return several
+
+
 def lines_of(search: PrioritySearch, verdict: OrderVerdict) -> list[str]:
     """The same in lines."""
     head, by = ("found", "by") if verdict.holds else ("not found", "the best by")
@@ -56,14 +68,9 @@ def lines_of(search: PrioritySearch, verdict: OrderVerdict) -> list[str]:
     lines += [f"{on}: {' '.join(names)}" for on, names in search.changed().items()]
     if not search.changed():
         lines.append("the order is that of the file")
-    for on, share in search.view.overloaded().items():
-        lines.append(
-            f"no order can do: the utilisation of {on} is {percent_above(share)} %, whatever the priorities are"
-        )
-    lines += [f"no order can do: {it}" for it in search.silences()]
-    if not verdict.holds and not search.has_orders():
-        lines.append("no order can do: no two tasks of a resource have priorities that could change places")
-    elif not verdict.holds and not search.view.overloaded() and not search.silences():
+    hindrances = hindrances_of(search, verdict)
+    lines += [f"no order can do: {it}" for it in hindrances]
+    if not verdict.holds and not hindrances:
         lines.append("there may be an order still: the search proves nothing about what it didn't try")
         stay = {key: any(it.get(key) for it in search.view.values["task"]) for key in ("region", "locks")}
         if any(stay.values()):
