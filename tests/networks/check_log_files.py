@@ -130,6 +130,10 @@ def check_log_words(room):
         ("there is no such bus; there are b", [*known, "--bus", "c=can0"]),
         ("write it as BUS=CHANNEL", [log, "--bus", "b"]),
         ("--report wants --system", [log, "--report", report]),
+        (
+            "two_tasks.report.txt: it isn't of examples/sae_can.toml: task a is in the report alone",
+            [log, "--system", "examples/sae_can.toml", "--report", "examples/two_tasks.report.txt"],
+        ),
         ("--period database wants --database", [log, "--period", "database"]),
         ("at least 0", [log, "--rough", "-1"]),
         ("is no time", [log, "--tick", "5"]),

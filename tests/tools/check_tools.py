@@ -177,6 +177,43 @@ def check_curves(room):
         hold(done.returncode == 1 and refusal in done.stderr, f"curve {given}: {done.stderr}")
 
 
+def check_other_reports(room):
+    """A report that is seen to be of another system, or of an earlier state of this one, is refused by whoever takes a
+    system and its report: what is drawn would have the numbers of both."""
+    file, report = "examples/crossing_chains.toml", "examples/crossing_chains.report.txt"
+    with open(file, encoding="utf-8") as it:
+        text = it.read()
+    with open("examples/crossing_chains.report.txt", encoding="ascii") as it:
+        lines = it.read()
+    picture = os.path.join(room, "other.svg")
+    calls = (
+        ["graph", file, "REPORT"],
+        ["curve", "--to", picture, file, "REPORT", "a2"],
+        ["gantt", "--to", picture, file, "examples/crossing_chains.schedule.csv"]
+        + ["--trace", "examples/crossing_chains.trace.csv", "--report", "REPORT"],
+    )
+    hold('name = "a1", on = "p", after = "sa", best = 5' in text, "crossing_chains.toml isn't as it was")
+    for place, (old, new, why) in enumerate(
+        (
+            ("task a1 p ", "task a3 p ", "task a1 is in the system alone"),
+            ("task a1 p ", "task a1 q ", "task a1 has the resource q in the report, and p in the system"),
+            ("distance 0 best 5 ", "distance 0 best 4 ", "task a1 has the best 4 in the report, and 5 in the system"),
+            ("task a1 p period 100 ", "task a1 p period 90 ", "task a1 has the period 90 in the report, and 100 in"),
+            (
+                "worst 40 deadline 45 met",
+                "worst 40 deadline 46 met",
+                "path pa has the deadline 46 in the report, and 45",
+            ),
+        )
+    ):
+        hold(old in lines, f"{report}: {old}")
+        other = written(room, f"other{place}.txt", lines.replace(old, new, 1))
+        for call in calls:
+            done = run(*(other if it == "REPORT" else it for it in call))
+            told = f"{other}: it isn't of {file}: {why}" in done.stderr
+            hold(done.returncode == 1 and told, f"{call[0]} {why}: {done.returncode} {done.stderr}")
+
+
 def check_help():
     """The words of each command, under a Python that has no packages; what all of them are; and words that are none."""
     for it in COMMANDS:
@@ -285,6 +322,7 @@ with tempfile.TemporaryDirectory() as room:
         check_charts(report, room)
         check_streams(file, report)
     check_curves(room)
+    check_other_reports(room)
     check_times(room)
     check_help()
     check_packages(room)

@@ -30,7 +30,7 @@ from lokwurmi_tools.networks.buses import BEHIND, ERRORS, Frame
 from lokwurmi_tools.shared.faults import Fault
 from lokwurmi_tools.shared.program import written_by
 from lokwurmi_tools.shared.progress import Progress
-from lokwurmi_tools.shared.report import bounds_in, read_report, reports_in
+from lokwurmi_tools.shared.report import bounds_in, report_of, reports_in
 from lokwurmi_tools.shared.system_file import read_system
 from lokwurmi_tools.shared.written_entries import comment
 
@@ -209,10 +209,10 @@ def rough(events: Iterable[tuple[int, Key]], least: dict[Key, int]) -> int:
     )
 
 
-def bounds_of(options: LogOptions, file: str) -> Bounds:
+def bounds_of(options: LogOptions, view: SystemView, file: str) -> Bounds:
     """The bound of each task, by a report or by a call."""
     if options.report:
-        return bounds_in(read_report(options.report))
+        return bounds_in(report_of(view, file, options.report))
     return bounds_in(reports_in(written_by(options.program, "analyse", file), file)[-1])
 
 
@@ -309,7 +309,7 @@ def compare(options: LogOptions, log: Log, names: FrameNames, file: str) -> int:
     buses = [name for name, it in view.resources.items() if it.is_bus]
     if not buses:
         raise Fault(f"{file}: it has no CAN bus")
-    bounds = bounds_of(options, file)
+    bounds = bounds_of(options, view, file)
     found = Comparison(options, log, names, view, bounds, inputs_of(view, bounds))
     for bus, channel in channels_of(options, log, buses).items():
         found.bus(bus, channel)

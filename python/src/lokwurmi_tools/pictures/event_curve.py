@@ -10,7 +10,7 @@ from lokwurmi_tools.pictures.plotting import bare, begun, check_name, save
 from lokwurmi_tools.runs.clock_cycle import clock_of
 from lokwurmi_tools.shared.faults import Fault
 from lokwurmi_tools.shared.packages import need
-from lokwurmi_tools.shared.report import bounds_in, read_report
+from lokwurmi_tools.shared.report import bounds_in, report_of
 from lokwurmi_tools.shared.system_file import read_system
 from lokwurmi_tools.shared.times import Scale
 from lokwurmi_tools.shared.types import Stream
@@ -79,9 +79,10 @@ def draw_curve(options: CurveOptions) -> None:
 
 def draw_streams(options: CurveOptions, name: str, picture: str) -> None:
     """Writes the picture of the streams that start a task."""
-    view, report = read_system(options.file), read_report(options.report or "")
-    if name not in view.tasks or name not in report.tasks:
-        raise Fault(f"{name}: no task of {options.file} and {options.report} has this name")
+    view = read_system(options.file)
+    report = report_of(view, options.file, options.report or "")
+    if name not in view.tasks:
+        raise Fault(f"{name}: no task of {options.file} has this name")
     if options.window is not None and options.window < 1 or options.beside and options.beside[0] < 1:
         raise Fault("a window and a period are at least 1")
     streams = input_of(view, bounds_in(report), name)

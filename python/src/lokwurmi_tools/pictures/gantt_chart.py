@@ -27,7 +27,7 @@ from lokwurmi_tools.runs.jobs_in_run import (
 from lokwurmi_tools.shared.chain_files import asked_chain, bounds_by, totals_of
 from lokwurmi_tools.shared.faults import Fault
 from lokwurmi_tools.shared.packages import need
-from lokwurmi_tools.shared.report import bounds_in, latencies_in, read_report
+from lokwurmi_tools.shared.report import bounds_in, latencies_in, report_of
 from lokwurmi_tools.shared.system_file import read_system
 from lokwurmi_tools.shared.times import Scale
 from lokwurmi_tools.shared.types import Bounds, Jobs, Schedule, Times, Trace
@@ -181,7 +181,7 @@ def draw_gantt(options: GanttOptions) -> None:
         schedule = read_schedule(options.schedule, view)
     else:
         schedule = schedule_by(options.program, options.file, options.trace or "", view)
-    report = read_report(options.report) if options.report else None
+    report = report_of(view, options.file, options.report) if options.report else None
     of_tasks, of_paths = (bounds_in(report), latencies_in(report)) if report else ({}, {})
     trace, longest = read_trace(options.trace) if options.trace else None, None
     start, until, last = options.start, options.until, max((end for _, _, end in schedule), default=1)

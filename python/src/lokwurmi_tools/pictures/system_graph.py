@@ -16,7 +16,7 @@ from lokwurmi_tools.pictures.colours import HUES, hues
 from lokwurmi_tools.pictures.plotting import check_name
 from lokwurmi_tools.shared.chain_files import read_chains
 from lokwurmi_tools.shared.faults import Fault
-from lokwurmi_tools.shared.report import read_report
+from lokwurmi_tools.shared.report import report_of
 from lokwurmi_tools.shared.system_file import read_system
 from lokwurmi_tools.shared.times import Scale
 
@@ -191,7 +191,7 @@ def draw_graph(options: GraphOptions) -> None:
     """Writes the picture of a system, or the text of its graph."""
     view = read_system(options.file)
     registers = read_chains(options.registers, view) if options.registers else []
-    report = read_report(options.report) if options.report else None
+    report = report_of(view, options.file, options.report) if options.report else None
     text = graph(view, report, options.chains, registers, Scale(options.tick))
     if not options.to:
         sys.stdout.write(text)
