@@ -150,6 +150,17 @@ def check_log_words(room):
 EPOCH = "(1764300000.000001) can0 010#00\n(1764300000.010002) can0 010#00\n"
 
 
+def check_between_ticks(room):
+    """Times between ticks are told: by ticks of 1 ms frames 9.6 ms apart seem to be 10 ms apart, and no jitter is seen."""
+    rows = "".join(f"(1764300000.{it:06d}) can0 010#00\n" for it in (0, 9600, 20400, 30000))
+    log, told = written(room, "between.log", rows), "frames at times between ticks are taken at the nearest one"
+    done = called("import log", log, "--tick", "1ms")
+    hold(f"between.log: 2 {told}: any two may be up to a tick closer" in done.stderr, f"between: {done.stderr}")
+    for words in (["--tick", "100us"], []):
+        done = called("import log", log, *words)
+        hold(done.returncode == 0 and not done.stderr, f"between {words}: {done.stderr}")
+
+
 def check_names(room):
     """A name with a line break makes no line of its own, and ticks as long as the times are fine are taken."""
     done = called("import log", written(room, "a\nb.log", EPOCH), "--tick", "1us")
@@ -310,6 +321,7 @@ if __name__ == "__main__":
         check_log_words,
         check_refused_logs,
         check_names,
+        check_between_ticks,
         check_whole,
         check_passed_over,
         check_can_utils,

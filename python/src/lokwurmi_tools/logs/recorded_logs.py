@@ -25,6 +25,7 @@ FURTHER = 3
 # beyond this times aren't whole numbers in python-can
 MOST_TIME = 2**53
 UNSORTED = "frames before an earlier one of their channel"
+BETWEEN = "frames at times between ticks"
 # what is told of messages that aren't plain frames
 NOTES = {
     ERRORS: ": after an error a frame is sent again, which only a bound with --errors counts",
@@ -35,6 +36,10 @@ NOTES = {
     ),
     "frames of the recorder itself": " are taken as others are",
     UNSORTED: ": all are sorted by their times",
+    BETWEEN: (
+        " are taken at the nearest one: any two may be up to a tick closer than is told, so that a source needs a tick"
+        " more jitter and a tick less distance; a shorter --tick tells it more exactly"
+    ),
 }
 
 
@@ -111,7 +116,8 @@ class LogBuilder:
 
     def __init__(self, file: str, tick: Fraction, drift: float, classical: bool, sort: bool):
         self.file, self.classical, self.sort = file, classical, sort
-        self.per_second = float(UNITS["s"] / tick) * (1 + drift / 1_000_000)
+        self.ticks_per_second = float(UNITS["s"] / tick)
+        self.per_second = self.ticks_per_second * (1 + drift / 1_000_000)
         self.begins: float | None = None
         self.latest: dict[str, int] = {}
         self.log = Log()
@@ -131,6 +137,10 @@ class LogBuilder:
                 f"{self.file}: near {message.timestamp:.6f} s its times are read to {rough * UNITS['s']:.0f} ns, which"
                 " is too rough for such a tick: take a longer --tick, as 1us"
             )
+        # a drift that is counted out moves all times, and is the user's
+        ticks = (message.timestamp - self.begins) * self.ticks_per_second
+        if abs(ticks - round(ticks)) > rough * self.ticks_per_second + 1e-6:
+            self.log.add(BETWEEN)
         return round(after)
 
     def add(self, message: Message) -> None:
