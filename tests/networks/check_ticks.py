@@ -270,6 +270,20 @@ def check_units_of_chains(tick, system, listed, wrote, deadline):
         hold(done.returncode in (1, 2) and said in done.stderr, f"units of chains: {said}: {done.stderr}")
 
 
+def check_left_lines():
+    """A step whose wait is `overload` has its response as a time; what is no report's line stays, which is told."""
+    wrote = "step a first wait overload response 5920\nchain tasks 1 reaction overload age overload held overload\n"
+    done = run("units", "--tick", "1us", python=PYTHON, given=wrote)
+    hold(done.stdout == wrote.replace("5920", "5.92ms") and not done.stderr, f"units: {done.stdout} {done.stderr}")
+    session = "line 3 refused 1\ntask a cpu jobs 0 done 0 worst none\n"
+    done = run("units", "--tick", "1us", python=PYTHON, given=session)
+    hold(done.stdout == session and not done.stderr, f"units: {done.stdout} {done.stderr}")
+    done = run("units", "--tick", "1us", python=PYTHON, given="task a seen 1136 bound 1276\nslack a 117 next missed\n")
+    hold(done.stdout == "task a seen 1.136ms bound 1.276ms\nslack a 117 next missed\n", f"units: {done.stdout}")
+    told = "1 line stays as in the file, in ticks, the first of them line 2, `slack a 117 next missed`"
+    hold(done.returncode == 0 and told in done.stderr, f"units: {done.stderr}")
+
+
 def check_python(tick, wanted):
     """The bounds of the same chain by Python, in a system with this tick."""
     system = System(tick=tick)
@@ -286,6 +300,7 @@ def check_chains(room):
     may be answered at 24999 us, and a bound of 23 ticks of 1 ms is no less than that by chance alone."""
     system = written(room, "two.toml", TWO)
     program = built("cpa_cli")
+    check_left_lines()
     for tick in ("1ms", "1us"):
         ticks = written(room, f"two.{tick}.toml", called("ticks", system, "--tick", tick).stdout)
         for deadline, status in (("24 ms", 1), ("25 ms", 0)):

@@ -17,9 +17,15 @@ from lokwurmi_tools.shared.times import text_of
 # the steps of a chain, and its bounds, in what `chain` writes
 STEP, TOTAL = re.compile(r"step \S+ (\S+) wait "), re.compile(r"chain(?: while-running)? tasks \d+ reaction ")
 # the numbers of a report that are times, by the word before each
-TIMES = re.compile(r"\b(period|jitter|distance|best|worst|deadline|bound|end|reaction|age|held|wait|response) (\d+)\b")
+TIMES = re.compile(
+    r"\b(period|jitter|distance|best|worst|deadline|bound|seen|end|reaction|age|held|wait|response) (\d+)\b"
+)
 # only these lines have such numbers; a name in them may be any such word, and so it is passed over
-LINES = re.compile(r"(task \S+(?: \S+)??|path \S+|summary|step \S+ \S+|chain(?: \S+(?= tasks ))?) (?=[a-z]+ \d)")
+LINES = re.compile(
+    r"(task \S+(?: \S+)??|path \S+|summary|step \S+ \S+|chain(?: \S+(?= tasks ))?) (?=[a-z]+ (?:\d|overload\b))"
+)
+# what has numbers, and no times
+PLAIN = re.compile(r"line \d+ refused \d+")
 
 
 @dataclass(frozen=True, slots=True)
@@ -99,8 +105,21 @@ def verdicts_of(chain: JudgedChain) -> list[str]:
     return [it.value for it in (chain.reaction_verdict, chain.age_verdict, chain.held_verdict)]
 
 
+def tell_left(left: list[tuple[int, str]], file: str) -> None:
+    """Tells which lines are no report's, so that their numbers stay in ticks."""
+    if left:
+        place, line = left[0]
+        count = "1 line stays" if len(left) == 1 else f"{len(left)} lines stay"
+        print(
+            f"{file}: {count} as in the file, in ticks, the first of them line {place}, `{line:.80}`: times are shown"
+            " of what analyse, session, simulate, chain and chains write",
+            file=sys.stderr,
+        )
+
+
 def show(options: TimeOptions, rows: Iterable[str]) -> None:
     """Prints the lines of a report with times."""
+    left: list[tuple[int, str]] = []
     waits, judged = Waits(), Judged(options.system, options.chains) if options.system and options.chains else None
     is_of_chains = False
     for place, row in enumerate(rows, 1):
@@ -115,6 +134,9 @@ def show(options: TimeOptions, rows: Iterable[str]) -> None:
         if judged is not None and (is_chain or lines.CHAINS.fullmatch(line)):
             line = judged.line(line)
         print(line_with_units(waits.line(line), options.tick, options.unit))
+        if re.search(r"\d", line) and not LINES.match(line) and not PLAIN.fullmatch(line):
+            left.append((place, line))
+    tell_left(left, options.report or "the standard input")
     if judged is not None and not is_of_chains:
         raise Fault(f"--chains {options.chains}: no line of the report is of `chains`; leave --system and --chains out")
 
