@@ -170,6 +170,7 @@ def check_curves(room):
     for refusal, given in (
         ("no task of", [*words, "wheel"]),
         ("a window and a period are at least 1", ["--window", "0", *words, "forward"]),
+        ("ticks has 20005005 events", ["--beside", "1", "0", "0", "--window", "20000000", *words, "forward"]),
         ("a picture's name ends with", ["--to", "picture.gif", *words, "forward"]),
         ("what starts it has no bound", ["examples/overload.toml", "examples/overload.report.txt", "a2"]),
     ):

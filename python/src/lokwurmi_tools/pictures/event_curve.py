@@ -15,6 +15,9 @@ from lokwurmi_tools.shared.system_file import read_system
 from lokwurmi_tools.shared.times import Scale
 from lokwurmi_tools.shared.types import Stream
 
+# how many events a curve goes up to: each is a step
+MOST_EVENTS = 4_000_000
+
 
 @dataclass(frozen=True, slots=True)
 class CurveOptions:
@@ -91,5 +94,7 @@ def draw_streams(options: CurveOptions, name: str, picture: str) -> None:
     period, jitter, distance = options.beside or (0, 0, 0)
     beside = (period, jitter, distance) if options.beside else None
     window = options.window or 2 * max(it[0] for it in [*streams, *([beside] if beside else [])])
+    if (events := sum(most_events(it, window) for it in [*streams, *([beside] if beside else [])])) > MOST_EVENTS:
+        raise Fault(f"a window of {window} ticks has {events} events, and a curve takes {MOST_EVENTS}: --window TICKS")
     labels = [label_of(it) for it in view.ways_to(name)]
     draw(streams, labels, beside, window, picture, f"Events that start {name}", Scale(options.tick))
