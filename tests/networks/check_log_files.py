@@ -151,7 +151,7 @@ EPOCH = "(1764300000.000001) can0 010#00\n(1764300000.010002) can0 010#00\n"
 
 
 def check_between_ticks(room):
-    """Times between ticks are told: by ticks of 1 ms frames 9.6 ms apart seem to be 10 ms apart, and no jitter is seen."""
+    """Times between ticks are told: by ticks of 1 ms frames 9.6 ms apart seem to be 10 ms apart, without jitter."""
     rows = "".join(f"(1764300000.{it:06d}) can0 010#00\n" for it in (0, 9600, 20400, 30000))
     log, told = written(room, "between.log", rows), "frames at times between ticks are taken at the nearest one"
     done = called("import log", log, "--tick", "1ms")

@@ -11,6 +11,11 @@ def decoded(data: bytes) -> str:
     return data.decode("utf-8", "surrogateescape").removeprefix("\ufeff")
 
 
+def reason_of(fault: Exception) -> str:
+    """Why a file can't be read, in words that don't name it again."""
+    return getattr(fault, "strerror", None) or str(fault)
+
+
 class File:
     """A file's name and text, and where its lines begin."""
 

@@ -3,7 +3,7 @@ import csv
 from collections.abc import Callable, Collection, Iterable, Iterator
 
 from lokwurmi.errors import Unreadable
-from lokwurmi.files.text_files import File
+from lokwurmi.files.text_files import File, reason_of
 from lokwurmi.files.whole_files import write_whole
 from lokwurmi.refusals import schedule, trace
 from lokwurmi.refusals.rows import Fault, Row, rows_in
@@ -23,7 +23,7 @@ def text_of(file: str) -> str:
         with open(0 if file == "-" else file, encoding="utf-8", newline="") as it:
             return it.read()
     except (OSError, UnicodeDecodeError) as fault:
-        raise Unreadable(f"{file}: can't be read: {fault}") from fault
+        raise Unreadable(f"{file}: can't be read: {reason_of(fault)}") from fault
 
 
 def _checked(text: str, file: str, fault_of: Callable[[Row], Fault | None]) -> Iterator[list[str]]:

@@ -8,6 +8,7 @@ from collections.abc import Iterable, Sequence
 from typing import Any
 
 from lokwurmi.errors import Unreadable
+from lokwurmi.files.text_files import reason_of
 from lokwurmi.model.view import SystemView
 from lokwurmi.results.reports import reports
 from lokwurmi_tools.campaigns.campaign_faults import Wrong
@@ -113,7 +114,7 @@ def read_grid(file: str, view: SystemView) -> list[Entry]:
         with open(file, "rb") as source:
             grid = tomllib.load(source)
     except (OSError, ValueError) as fault:
-        raise Wrong(f"{file}: can't be read: {fault}") from None
+        raise Wrong(f"{file}: can't be read: {reason_of(fault)}") from None
     if (
         set(grid) != {"vary"}
         or not isinstance(grid["vary"], list)

@@ -7,6 +7,7 @@ import os
 from fractions import Fraction
 from typing import Any, Collection, Iterable
 
+from lokwurmi.files.text_files import reason_of
 from lokwurmi_tools.networks.arxml_lines import SECONDS, TOO_LOW, ArxmlFrames, Triggered
 from lokwurmi_tools.networks.buses import (
     BEHIND,
@@ -189,7 +190,7 @@ def loaded(file: str) -> tuple[dict[str, Any], str]:
         with contextlib.redirect_stdout(heard):
             found = canmatrix.formats.loadp(file)
     except OSError as fault:
-        raise Fault(f"{file}: can't be read: {fault}")
+        raise Fault(f"{file}: can't be read: {reason_of(fault)}")
     except Exception as fault:  # whatever the reader of this format raises
         raise Fault(f"{file}: canmatrix can't read it: {type(fault).__name__}: {fault}")
     finally:

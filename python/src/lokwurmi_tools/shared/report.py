@@ -5,6 +5,7 @@ from typing import TypeVar
 
 from lokwurmi.errors import Unreadable
 from lokwurmi.files import report_lines
+from lokwurmi.files.text_files import reason_of
 from lokwurmi.model.view import SystemView
 from lokwurmi.results import reports
 from lokwurmi.results.reports import Report
@@ -39,7 +40,7 @@ def read_report(file: str) -> Report:
         with open(file, encoding="ascii") as it:
             text = it.read()
     except (OSError, UnicodeDecodeError) as fault:
-        raise Fault(f"{file}: can't be read: {fault}") from fault
+        raise Fault(f"{file}: can't be read: {reason_of(fault)}") from fault
     # each line is read, so that the first that is none is told
     read_by(report_lines.reports_in, text.splitlines(), file)
     return reports_in(text, file)[-1]
