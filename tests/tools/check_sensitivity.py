@@ -388,6 +388,7 @@ def check_refused(python, clocked):
     """What the tool doesn't take, and where nothing may move."""
     sae = os.path.join(TOP, "examples", "sae_can.toml")
     for words, status, said in (
+        ([sae, "--to", "/nowhere/it.svg"], 1, "/nowhere/it.svg: can't be written: there is no folder /nowhere"),
         (
             [os.path.join(TOP, "examples", "crossing_chains.toml")],
             3,

@@ -42,6 +42,10 @@ KNOWN = [
 ]
 # Words that aren't taken, and what the line says.
 REFUSED = [
+    (
+        ["crossing_chains.toml", "a1", "--tries", "1000000", "--seconds", "3600", "--to", "/nowhere/it.csv"],
+        "/nowhere/it.csv: can't be written: there is no folder /nowhere; make it first",
+    ),
     (["two_tasks.toml", "c"], "no task c; it has a, b"),
     (["two_tasks.toml", "--path", "p"], "no path p; it has none"),
     (["two_tasks.toml"], "name a task, or --path NAME, or --all"),

@@ -18,6 +18,7 @@ from lokwurmi_tools.shared.system_file import clock_words_of
 from lokwurmi_tools.shared.tables import columns, percent_below
 from lokwurmi_tools.shared.times import TICKS, Scale
 from lokwurmi_tools.shared.types import Values
+from lokwurmi_tools.shared.written_entries import check_folders
 
 # what has to be said beside the table
 NOTE = "each is moved alone: two that both move so far may miss a deadline together"
@@ -199,6 +200,7 @@ def question_of(options: MarginOptions) -> MarginQuestion:
 
 def tell_margins(options: MarginOptions) -> int:
     """Tells how far each number may move; 3 where something doesn't hold already."""
+    check_folders(options.to)
     if options.to:
         need("matplotlib")
     start, question = time.monotonic(), question_of(options)

@@ -16,7 +16,7 @@ from lokwurmi_tools.shared.faults import Fault
 from lokwurmi_tools.shared.packages import need
 from lokwurmi_tools.shared.tables import columns, numbered, percent_above
 from lokwurmi_tools.shared.types import Values
-from lokwurmi_tools.shared.written_entries import comments, put
+from lokwurmi_tools.shared.written_entries import check_folders, comments, put
 
 # what to write where no source is on a clock
 WRITE = (
@@ -51,13 +51,6 @@ def check_names(known: Analysed, options: OffsetOptions) -> None:
             raise Fault(f"{known.file}: --keep {it}: there is no such source; on clocks are {on}")
         if view.sources[it].clock is None:
             raise Fault(f"{at_source(known, it)}: --keep {it}: it is on no clock, and so doesn't move: leave it out")
-
-
-def check_folders(*files: str | None) -> None:
-    """Ends the command before it searches where the folder of a file that it is to write isn't there."""
-    for it in files:
-        if it and not os.path.isdir(os.path.dirname(it) or "."):
-            raise Fault(f"{it}: can't be written: there is no folder {os.path.dirname(it)}; make it first")
 
 
 def free_in(known: Analysed, options: OffsetOptions) -> list[str]:

@@ -34,6 +34,7 @@ from lokwurmi_tools.shared.faults import Fault
 from lokwurmi_tools.shared.packages import need
 from lokwurmi_tools.shared.tables import ratio_text
 from lokwurmi_tools.shared.types import Jobs, Times
+from lokwurmi_tools.shared.written_entries import check_folders
 
 
 def late_in(view: SystemView, events: Times, jobs: Jobs, target: Target) -> str:
@@ -192,6 +193,7 @@ def perform(options: WorstOptions, folder: str) -> int:
 
 def find_worst(options: WorstOptions) -> int:
     """Looks for late runs, and tells what was found; its status."""
+    check_folders(options.to, options.draw)
     if options.draw:
         need("matplotlib")
     # before the search there is nothing to keep

@@ -1,4 +1,5 @@
 """Entries and comments of a system file, for the tools that write one."""
+import os
 import sys
 import textwrap
 from collections.abc import Iterable
@@ -44,6 +45,13 @@ def comments(line: str) -> list[str]:
         break_on_hyphens=False,
     )
     return [comment(it) for it in parts]
+
+
+def check_folders(*files: str | None) -> None:
+    """Ends the command before it searches where the folder of a file that it is to write isn't there."""
+    for it in files:
+        if it and not os.path.isdir(os.path.dirname(it) or "."):
+            raise Fault(f"{it}: can't be written: there is no folder {os.path.dirname(it)}; make it first")
 
 
 def put(text: str, file: str | None) -> None:
