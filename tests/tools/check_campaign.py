@@ -265,8 +265,8 @@ def calls_that_never_do(folder):
     hold(
         done.returncode == 3
         and calls_in(deadly) == ["2"] * 4
-        and "hammer 2 5: 1 of 1 tries failed" in done.stderr
-        and "the worker died" in done.stderr
+        and re.search(r"hammer \d 5: 1 of 1 tries failed.*the worker died.*", done.stderr)
+        and "hammer 2 5" in done.stderr
         and "Traceback" not in done.stderr,
         f"a call under which each worker dies is told after four {calls_in(deadly)} {done.stderr[-300:]}",
     )

@@ -191,6 +191,14 @@ class CallsUnderWay:
         except queue.Empty:
             return None
 
+    def death(self) -> str:
+        """Under which call workers died: Dask tells so of those, too, that waited behind it at each of them."""
+        # of all these it tells at once
+        time.sleep(0.2)
+        several = [unit[0] for it, units in self.running.items() if it.status == "error" for unit in units]
+        beside = f", or under what waited with it: {', '.join(several)}" if several else ""
+        return f"the worker died, and those before it under the same call{beside}"
+
     def take(self, future: distributed.Future) -> Iterator[tuple[Unit, worker.Answer]]:
         """Gives the units of a future that ended, with their answers; those that it lacks are tried again, each for
         itself."""
@@ -208,7 +216,7 @@ class CallsUnderWay:
             # the scheduler handed it on to other workers before
             fault = future.exception()
             if isinstance(fault, distributed.scheduler.KilledWorker):
-                where, fault = fault.last_worker.address, "the worker died, and those before it under the same call"
+                where, fault = fault.last_worker.address, self.death()
         else:
             raise gone(self.options)
         future.release()
